@@ -1,4 +1,4 @@
-ghost use Rattle.std.specs.Prelude.{◌≡◌, [], ◌∷◌, ◌++◌, ◌<◌, length, slice_get, ◌↔◌, IsTrue, IfOk, OnOk, OnErr, OnSome};
+ghost use Rattle.std.specs.Prelude.{◌≡◌, [], ◌∷◌, ◌++◌, ◌<◌, ◌≤◌, length, slice_get, slice_set, insert, remove, ◌↔◌, IsTrue, codes, Some, IfOk, OnOk, OnErr, OnSome};
 ghost use Rattle.std.specs.Option.{option_copied};
 
 use std::alloc::{AllocError, AllocFailed, Global};
@@ -11,6 +11,8 @@ use std::marker::Model;
 pub struct NoMemory;
 
 impl fmt::Display for NoMemory {
+    ghost output = { λ _. Some (codes "no memory") };
+
     fn fmt<W: fmt::Write>(&self, f: &mut fmt::Formatter<W>) -> fmt::Result {
         write!(f, "no memory")
     }
@@ -133,6 +135,42 @@ impl<T: Drop> Items<T> {
         Ok(())
     }
 
+    /// Puts the element at this place, counted from 0, before those from there on.
+    pub fn insert(&mut self, at: usize, item: T) -> Result<(), NoMemory>
+        requires { at ≤ length self.old }
+        ensures ok { OnOk result (self.new ≡ insert self.old at item) }
+        ensures err { OnErr result (self.new ≡ self.old) }
+    {
+        self.inner.insert(at, item)?;
+        Ok(())
+    }
+
+    /// Takes out the element at this place, counted from 0.
+    pub fn remove(&mut self, at: usize) -> T
+        requires { at < length self.old }
+        ensures item { slice_get self.old at ≡ Some result }
+        ensures rest { self.new ≡ remove self.old at }
+    {
+        self.inner.remove(at)
+    }
+
+    /// Replaces the element at this place, counted from 0.
+    pub fn set(&mut self, at: usize, item: T)
+        requires { at < length self.old }
+        ensures { self.new ≡ slice_set self.old at item }
+    {
+        self.inner[at] = item;
+    }
+
+    /// Moves the elements of `more` to the end.
+    pub fn append(&mut self, more: Items<T>) -> Result<(), NoMemory>
+        ensures { OnOk result (self.new ≡ self.old ++ more) }
+    {
+        let Items { mut inner } = more;
+        self.inner.append(&mut inner)?;
+        Ok(())
+    }
+
     /// Drops all elements. The memory stays for the next ones.
     pub fn clear(&mut self)
         ensures { self.new ≡ [] }
@@ -156,8 +194,14 @@ mod tests {
         let copy = bytes.clone()?;
         bytes.clear();
         assert!(rt; bytes.is_empty());
-        let list = Items::from_vec(copy.into_vec());
+        let mut list = Items::from_vec(copy.into_vec());
         assert_eq!(rt; list.len(), 5);
+        list.insert(0, b'z')?;
+        assert!(rt; list.len() > 2);
+        list.set(1, b'y');
+        assert_eq!(rt; list.remove(2), b'b');
+        list.append(Bytes::from_slice(rt.alloc(), b"fg".as_slice())?)?;
+        assert_eq!(rt; list.as_slice(), b"zycdefg".as_slice());
         Ok(())
     }
 }

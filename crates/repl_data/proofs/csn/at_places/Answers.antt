@@ -1,4 +1,4 @@
-use Rattle.std.proofs.Common.{sym, ap, ◌∙◌, length, Some, arith}
+use Rattle.std.proofs.Common.{sym, ap, ◌∙◌, length, Some}
 use Rattle.repl_data.proofs.Bytes.{length-uid_text, time_read, middle_read, sub_read, all_read}
 use Rattle.repl_data.proofs.csn.at_places.Goals as goal
 

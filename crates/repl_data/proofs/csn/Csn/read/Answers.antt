@@ -1,4 +1,4 @@
-use Rattle.std.proofs.Common.{sym, subst, ◌∙◌, ap, ◌≡◌}
+use Rattle.std.proofs.Common.{◌∙◌, ap}
 use Rattle.repl_data.specs.Text.{read_csn}
 use Rattle.repl_data.proofs.Bytes.{read_csn-found, read_csn-exact, read_csn-csn_text}
 use Rattle.repl_data.proofs.csn.Csn.read.Goals as goal

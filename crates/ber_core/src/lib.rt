@@ -1,0 +1,14 @@
+//! Elements of BER with definite lengths, integers and Booleans, both ways (X.690; RFC 4511, section
+//! 5.1).
+#![tactic(auto)]
+
+mod fault;
+mod number;
+mod read;
+mod write;
+
+pub use fault::{BerFault, BerWhy};
+pub use number::{read_bool, read_int};
+pub use read::{Header, Tlv, read_header, read_tlv};
+pub use repl_data::{Bytes, NoMemory};
+pub use write::{ber_laws, write_int, write_tlv};

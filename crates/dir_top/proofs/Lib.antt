@@ -1,0 +1,5 @@
+pub mod Numbers
+pub mod Places
+pub mod Reaching
+pub mod Runs
+pub mod Texts

@@ -1,0 +1,70 @@
+-- What a script writes: its lines are carried out one after the other, each on the state that the one before left, up to
+-- the first that is not. Only the meaning of one line differs from one state of the program to the next.
+use Rattle.std.specs.Prelude.{◌≡◌, ℕ, ◌+◌, ◌==◌, if◌then◌else◌, List, [], ◌∷◌, ◌++◌, Option}
+use Rattle.std.specs.Io.KnownBytes.{Appends}
+use Rattle.io_edge.specs.Edge.{AppendsFront}
+use Rattle.dir_top.specs.declared.status.Status.{Status}
+use Rattle.dir_top.specs.declared.status.Status.TheVariants.{Done, Usage, ReadFault, WriteFault, NoMemory, NotYet}
+
+-- ---- lines
+
+-- a byte stands at the front of the first line
+abbrev pub onto_first : ℕ → List (List ℕ) → List (List ℕ)
+onto_first b [] = (b ∷ []) ∷ []
+onto_first b (line ∷ lines) = (b ∷ line) ∷ lines
+
+-- the lines of a text, each with its line feed; a last line without one counts, and nothing after the last line feed is no line
+unfoldable pub lines_of : List ℕ → List (List ℕ)
+lines_of [] = []
+lines_of (b ∷ bytes) = if b == 10 then (10 ∷ []) ∷ lines_of bytes else onto_first b (lines_of bytes)
+
+-- what stands before the line feed
+abbrev pub before_feed : List ℕ → List ℕ
+before_feed [] = []
+before_feed (b ∷ bytes) = if b == 10 then [] else b ∷ before_feed bytes
+
+-- ---- the lines one after the other
+
+-- what a line does: it leads on to the next state and writes a text, or it is not built yet
+pub data LineStep (S : Type 0) : Type 0 where
+  GoesOn : (next : S) → (text : List ℕ) → LineStep S
+  NotBuilt : LineStep S
+
+-- where a script stops: after its last line, or before the line of this number
+pub data Stop : Type 0 where
+  AtEnd : Stop
+  AtNotBuilt : (line : ℕ) → Stop
+
+-- what has become of a script
+pub record Told (S : Type 0) : Type 0 where
+  pub state : S
+  pub text : List ℕ
+  pub stop : Stop
+
+-- the text of a line, and then what becomes of the lines after it
+abbrev pub after_text : {S : Type 0} → List ℕ → Told S → Told S
+after_text text t = record { state = t.state; text = text ++ t.text; stop = t.stop }
+
+-- what becomes of the lines from this number on, where `step` is the meaning of one line, by the state and its number
+abbrev pub told : {S : Type 0} → (S → ℕ → List ℕ → LineStep S) → S → ℕ → List (List ℕ) → Told S
+told step s number [] = record { state = s; text = []; stop = AtEnd }
+told step s number (line ∷ lines) =
+    elim (step s number line) [
+      GoesOn next text ↦ after_text text (told step next (number + 1) lines)
+    | NotBuilt ↦ record { state = s; text = []; stop = AtNotBuilt number } ]
+
+-- what becomes of a script
+abbrev pub told_of : {S : Type 0} → (S → ℕ → List ℕ → LineStep S) → S → List ℕ → Told S
+told_of step start bytes = told step start 1 (lines_of bytes)
+
+-- ---- the status
+
+-- What a status says: the script ended, or stopped at this line, with its whole text written. After any other status but
+-- `Usage`, which is of the words alone, a front of that text was written.
+abbrev pub Outcome : {S : Type 0} → Told S → Status → Option (List ℕ) → Option (List ℕ) → Type 0
+Outcome t Done old new = (t.stop ≡ AtEnd) × Appends old new t.text
+Outcome t (NotYet line) old new = (t.stop ≡ AtNotBuilt line) × Appends old new t.text
+Outcome t (Usage word) old new = ⊥
+Outcome t ReadFault old new = AppendsFront old new t.text
+Outcome t WriteFault old new = AppendsFront old new t.text
+Outcome t NoMemory old new = AppendsFront old new t.text

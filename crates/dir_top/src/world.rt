@@ -1,0 +1,295 @@
+ghost use Rattle.std.specs.Prelude.{◌≡◌, ◌≤◌, length, insert, IfOk, IfSome, IfNone, None, option_map};
+ghost use Rattle.repl_data.specs.Order.{bytes_cmp};
+ghost use Rattle.std.specs.Ordering.{is_lt};
+ghost use Rattle.dir_top.specs.Output.{GoesOn, NotBuilt};
+ghost use Rattle.dir_top.specs.Script.{line_step};
+ghost use Rattle.dir_top.specs.World.{new_world, connection_in, with_connection, is_open, draw, has_unit, put, add_drawn, add_with, add_text, out_line, dump_text, answer, connected, fed, carried};
+ghost use Rattle.dir_top.specs.Request.{reply};
+
+use crate::line::Line;
+use crate::print::{put_dump_head, put_entry, put_out, put_suffix};
+use crate::request::{Request, read_request, reply};
+use repl_data::{Bytes, Csn, Items, NoMemory};
+use std::alloc::Global;
+
+/// A connection of the script.
+#[derive(Clone, Copy, Debug, Eq, PartialEq)]
+pub enum Connection {
+    Closed,
+    Anonymous,
+    Manager,
+}
+
+/// When the node drew its last CSN.
+#[derive(Clone, Copy, Debug, Eq, PartialEq)]
+pub struct Moment {
+    /// In seconds since 1970.
+    pub time: u32,
+    pub seq: u16,
+}
+
+/// An organizational unit below the suffix.
+#[derive(Debug, Drop)]
+pub struct Added {
+    pub csn: Csn,
+    pub unit: Bytes,
+}
+
+/// One node, its clock and its connections.
+#[derive(Debug, Drop)]
+pub struct World {
+    /// In seconds since 1970.
+    pub clock: u32,
+    pub last: Moment,
+    /// Connection C stands at place C - 1.
+    pub connections: [Connection; 64],
+    /// In order of name.
+    pub added: Items<Added>,
+}
+
+impl Moment {
+    /// The next moment at which a CSN may be drawn, if there is one.
+    fn next(self, now: u32) -> Option<Moment>
+        ensures { result ≡ draw self now }
+    {
+        if self.time < now {
+            Some(Moment { time: now, seq: 0 })
+        } else if self.seq < 65535 {
+            Some(Moment {
+                time: self.time,
+                seq: self.seq + 1,
+            })
+        } else if self.time < 4_294_967_295 {
+            Some(Moment {
+                time: self.time + 1,
+                seq: 0,
+            })
+        } else {
+            None
+        }
+    }
+}
+
+impl Connection {
+    fn is_open(self) -> bool
+        ensures { result ≡ is_open self }
+    {
+        self != Connection::Closed
+    }
+}
+
+fn has_unit(added: &[Added], unit: &[u8]) -> bool
+    ensures { result ≡ has_unit added.now unit.now }
+{
+    added.iter().any(|a| a.unit.as_slice() == unit)
+}
+
+fn is_before(a: &Added, b: &Added) -> bool
+    ensures { result ≡ is_lt (bytes_cmp a.now.unit b.now.unit) }
+{
+    a.unit.as_slice().cmp(b.unit.as_slice()).is_lt()
+}
+
+/// The place of an entry among those in order of name.
+fn place_of(new: &Added, added: &[Added]) -> usize
+    ensures within { result ≤ length added.now }
+    ensures place { insert added.now result new.now ≡ put new.now added.now }
+{
+    for at in 0..added.len() {
+        if is_before(new, &added[at]) {
+            return at;
+        }
+    }
+    added.len()
+}
+
+/// The text of a result that has one.
+fn add_text(code: u8) -> &'static [u8]
+    ensures { result.now ≡ add_text code }
+{
+    if code == 53 {
+        b"csn space used up"
+    } else {
+        b""
+    }
+}
+
+impl World {
+    /// Nothing is open, and the suffix has no entry below it.
+    fn new(alloc: Global) -> World
+        ensures { result ≡ new_world }
+    {
+        World {
+            clock: 0,
+            last: Moment { time: 0, seq: 0 },
+            connections: [Connection::Closed; 64],
+            added: Items::new(alloc),
+        }
+    }
+
+    fn connection(&self, c: u16) -> Connection
+        ensures { result ≡ connection_in self.now c }
+    {
+        let place = usize::from(c.saturating_sub(1));
+        self.connections
+            .get(place)
+            .copied()
+            .unwrap_or(Connection::Closed)
+    }
+
+    fn set_connection(&mut self, c: u16, connection: Connection)
+        ensures { self.new ≡ with_connection self.old c connection }
+    {
+        let place = usize::from(c.saturating_sub(1));
+        if place < 64 {
+            self.connections[place] = connection;
+        }
+    }
+
+    /// Adds an entry that drew this, if its name is not there, and gives the result code.
+    fn add_drawn(&mut self, drawn: Moment, unit: Bytes) -> Result<u8, NoMemory>
+        ensures { IfOk result (λ code. (self.new, code) ≡ add_drawn self.old Connection.Manager unit drawn) }
+    {
+        if has_unit(self.added.as_slice(), unit.as_slice()) {
+            return Ok(68);
+        }
+        let csn = Csn {
+            time: drawn.time,
+            seq: drawn.seq,
+            rid: 1,
+            sub: 0,
+        };
+        let new = Added { csn, unit };
+        let place = place_of(&new, self.added.as_slice());
+        self.added.insert(place, new)?;
+        Ok(0)
+    }
+
+    /// Carries out an add, and gives the result code. A refused add has used its CSN.
+    fn add(&mut self, connection: Connection, unit: Bytes) -> Result<u8, NoMemory>
+        ensures { IfOk result (λ code. (self.new, code) ≡ add_with self.old connection unit (draw self.old.last self.old.clock)) }
+    {
+        let Some(drawn) = self.last.next(self.clock) else {
+            return Ok(53);
+        };
+        self.last = drawn;
+        if connection != Connection::Manager {
+            return Ok(50);
+        }
+        self.add_drawn(drawn, unit)
+    }
+}
+
+impl World {
+    /// Answers a request on an open connection, and gives what the line prints.
+    fn answer(&mut self, alloc: Global, c: u16, request: Request) -> Result<Bytes, NoMemory>
+        ensures { IfOk result (λ text. (self.new, text) ≡ answer self.old c request) }
+    {
+        match request {
+            Request::Bind { id } => {
+                self.set_connection(c, Connection::Manager);
+                out_line(alloc, c, id, 0x61, 0)
+            }
+            Request::Add { id, unit } => {
+                let connection = self.connection(c);
+                let code = self.add(connection, unit)?;
+                out_line(alloc, c, id, 0x69, code)
+            }
+        }
+    }
+
+    fn input(&mut self, alloc: Global, c: u16, bytes: &[u8]) -> Result<Option<Bytes>, NoMemory>
+        ensures { IfOk result (λ o. option_map (λ text. (self.new, text)) o ≡ fed self.old c bytes.now) }
+    {
+        if !self.connection(c).is_open() {
+            return Ok(None);
+        }
+        let Some(request) = read_request(alloc, bytes)? else {
+            return Ok(None);
+        };
+        Ok(Some(self.answer(alloc, c, request)?))
+    }
+
+    fn connect(&mut self, alloc: Global, c: u16) -> Option<Bytes>
+        ensures { option_map (λ text. (self.new, text)) result ≡ connected self.old c }
+    {
+        if self.connection(c).is_open() {
+            return None;
+        }
+        self.set_connection(c, Connection::Anonymous);
+        Some(Bytes::new(alloc))
+    }
+
+    /// The listing of the entries.
+    fn dump(&self, alloc: Global, n: u16) -> Result<Bytes, NoMemory>
+        ensures { IfOk result (λ text. text ≡ dump_text n self.now) }
+    {
+        let below = self.added.len() as u64;
+        let mut text = Bytes::new(alloc);
+        put_dump_head(alloc, &mut text, n, below.checked_add(1).ok_or(NoMemory)?)?;
+        put_suffix(&mut text)?;
+        for added in self.added.as_slice() {
+            put_entry(&mut text, added)?;
+        }
+        Ok(text)
+    }
+
+    /// Carries out a line, and gives what it prints, if it may stand here and is built.
+    fn carry(&mut self, alloc: Global, line: Line) -> Result<Option<Bytes>, NoMemory>
+        ensures { IfOk result (λ o. option_map (λ text. (self.new, text)) o ≡ carried self.old line) }
+    {
+        match line {
+            Line::Nodes { .. } => Ok(None),
+            Line::Clock { time } => {
+                self.clock = time;
+                Ok(Some(Bytes::new(alloc)))
+            }
+            Line::Connect { c, .. } => Ok(self.connect(alloc, c)),
+            Line::Input { c, bytes } => self.input(alloc, c, bytes.as_slice()),
+            Line::Dump { n } => Ok(Some(self.dump(alloc, n)?)),
+        }
+    }
+}
+
+/// The reply with the text of its code, as a line.
+fn out_line(alloc: Global, c: u16, id: u8, tag: u8, code: u8) -> Result<Bytes, NoMemory>
+    ensures { IfOk result (λ text. text ≡ out_line c (reply id tag code (add_text code))) }
+{
+    let reply = reply(alloc, id, tag, code, add_text(code))?;
+    let mut text = Bytes::new(alloc);
+    put_out(alloc, &mut text, c, reply.as_slice())?;
+    Ok(text)
+}
+
+/// Carries out a line of the script, and gives what it prints, if it may stand here and is built.
+pub(crate) fn carry(
+    alloc: Global,
+    world: &mut Option<World>,
+    line: Line,
+) -> Result<Option<Bytes>, NoMemory>
+    ensures carried { IfOk result (λ o. IfSome o (λ text. line_step world.old line ≡ GoesOn world.new text)) }
+    ensures foreign { IfOk result (λ o. IfNone o (line_step world.old line ≡ NotBuilt)) }
+{
+    match world {
+        Some(world) => world.carry(alloc, line),
+        None => begin(alloc, world, line),
+    }
+}
+
+fn begin(
+    alloc: Global,
+    world: &mut Option<World>,
+    line: Line,
+) -> Result<Option<Bytes>, NoMemory>
+    requires { world.old ≡ None }
+    ensures carried { IfOk result (λ o. IfSome o (λ text. line_step world.old line ≡ GoesOn world.new text)) }
+    ensures foreign { IfOk result (λ o. IfNone o (line_step world.old line ≡ NotBuilt)) }
+{
+    match line {
+        Line::Nodes { .. } => {
+            *world = Some(World::new(alloc));
+            Ok(Some(Bytes::new(alloc)))
+        }
+        _ => Ok(None),
+    }
+}

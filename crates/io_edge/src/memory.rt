@@ -1,0 +1,5 @@
+mod sink;
+mod source;
+
+pub use sink::MemSink;
+pub use source::MemSource;
