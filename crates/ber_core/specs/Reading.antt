@@ -14,7 +14,7 @@ use Rattle.ber_core.specs.Element.{IsHeader, IsElementWithin}
 abbrev pub BeginsNone : ℕ → List ℕ → Type 0
 BeginsNone limit bytes = (more whole rest : List ℕ) → IsElementWithin limit whole → bytes ++ more ≡ whole ++ rest → ⊥
 
--- This many bytes are missing: some such bytes make an element within the limit of these, and no fewer do.
+-- So many bytes are missing: some that many behind these make an element within the limit, and no fewer do.
 pub record IsMissing (limit : ℕ) (bytes : List ℕ) (need : ℕ) : Type 0 where
   pub some_missing : 0 < need
   pub enough : (rest : List ℕ) × IsBytes rest × (length rest ≡ need) × IsElementWithin limit (bytes ++ rest)
@@ -45,13 +45,13 @@ form_of (tag ∷ b ∷ bytes) =
 abbrev pub digit_count : ℕ → ℕ
 digit_count b = b - 128
 
--- how many bytes the tag and the length have: two, as long as nothing says that they are more
+-- how many bytes the tag and the length have: two, until the first byte of the length says that they are more
 abbrev pub header_size : List ℕ → ℕ
 header_size [] = 2
 header_size (tag ∷ []) = 2
 header_size (tag ∷ b ∷ bytes) = 2 + digit_count b
 
--- how many bytes the content has at least; digits that are not there may be zeros
+-- how many bytes the content has at least: digits of the length that are not there yet count as zeros
 abbrev pub content_size : List ℕ → ℕ
 content_size [] = 0
 content_size (tag ∷ []) = 0

@@ -16,8 +16,8 @@ pub enum BerWhy {
     LongTag,
     /// The length is 80: the indefinite form (X.690, section 8.1.3.6; RFC 4511, section 5.1).
     Indefinite,
-    /// The length begins with 89 to ff: more than eight digits, or the reserved byte (X.690, section
-    /// 8.1.3.5).
+    /// The length begins with 89 to ff: more than eight digits, or the reserved byte (X.690,
+    /// section 8.1.3.5).
     LengthForm,
     /// The element has more bytes than the limit.
     TooLarge,

@@ -1,5 +1,5 @@
-//! Elements of BER with definite lengths, integers and Booleans, both ways (X.690; RFC 4511, section
-//! 5.1).
+//! Elements of BER with definite lengths, integers and Booleans, read and written (X.690, sections
+//! 8.1 to 8.3; RFC 4511, section 5.1).
 #![tactic(auto)]
 
 mod fault;

@@ -67,7 +67,7 @@ pub fn read_int(body: &[u8]) -> Option<i64>
     }
 }
 
-/// The truth value that the content of a BOOLEAN is, and `None` where there is not exactly one byte.
+/// The truth value that the content of a BOOLEAN is, and `None` where there isn't exactly one byte.
 ///
 /// Each byte but 0 is true (X.690, section 8.2). RFC 4511 has ff for it alone (section 5.1).
 pub fn read_bool(body: &[u8]) -> Option<bool>

@@ -155,12 +155,12 @@ fn find_element(input: &[u8], limit: usize) -> Result<Tlv<'_>, BerFault>
 ///
 /// A length is read in the short form and in the long form with one to eight digits, also where
 /// fewer bytes could say it (X.690, sections 8.1.3.4 and 8.1.3.5). The indefinite form is refused
-/// (RFC 4511, section 5.1). The elements inside another are read one after the other, each with what
-/// is left of the outer one as its limit.
+/// (RFC 4511, section 5.1).
 ///
 /// A fault is told as soon as it is certain: a length of which only the first digits are there is
 /// too large where zeros for the others would make it so, and with a limit below two nothing is
-/// awaited. Reads the tag and the length alone, in constant time.
+/// awaited. The elements inside another are read one after the other, each with what is left of the
+/// outer one as its limit. Looks at the tag and the length alone, in constant time.
 pub fn read_tlv(input: &[u8], limit: usize) -> Result<Tlv<'_>, BerFault>
     // What is read is an element, at the front of the input.
     ensures found { IfOk result (λ t. IsElement (take t.size input.now) t.tag t.body.now) }
@@ -172,8 +172,10 @@ pub fn read_tlv(input: &[u8], limit: usize) -> Result<Tlv<'_>, BerFault>
         → length whole ≤ limit → input.now ≡ whole ++ rest
         → IsOkAnd result (λ t. parts t ≡ record { tag = tag; body = body; size = length whole }) }
 
-    // More comes exactly where so many bytes are missing. Bad: no element within the limit begins so.
-    ensures more { (need : ℕ) → (result ≡ Err (BerFault.More need)) ↔ IsMissing limit input.now need }
+    // More comes exactly where so many bytes of the element are missing.
+    // Bad: no element within the limit begins so.
+    ensures more { (need : ℕ) → (result ≡ Err (BerFault.More need)) ↔
+        IsMissing limit input.now need }
     ensures bad { (place : ℕ) (why : BerWhy) → result ≡ Err (BerFault.Bad place why)
         → BeginsNone limit input.now }
     ensures placed { IfErr result (λ e. IsPlacedWithin limit e) }

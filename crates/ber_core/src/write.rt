@@ -68,6 +68,7 @@ pub fn write_tlv(alloc: Global, out: &mut Bytes, tag: u8, body: &[u8]) -> Result
     ensures ok { OnOk result (out.new ≡ out.old ++ element tag body.now) }
     ensures err { OnErr result (out.new ≡ out.old) }
 {
+    // The vector inside can make all its room beforehand.
     let mut bytes = mem::replace(out, Bytes::new(alloc)).into_vec();
     let written = push_element(&mut bytes, tag, body);
     *out = Bytes::from_vec(bytes);
@@ -95,11 +96,11 @@ pub fn ber_laws()
     ensures written { (tag : ℕ) (body : List ℕ) → IsTag tag → length body < 2 ^ 64
         → IsElement (element tag body) tag body }
 
-    // All other bytes that say the same length are more than those that are written.
+    // No other bytes that say the same length are as few as those that are written.
     ensures shortest { (len : List ℕ) (n : ℕ) → IsBytes len → IsLength len n
         → (len ≡ shortest_length n) ⊎ (length (shortest_length n) < length len) }
 
-    // The same of integers, which are read as they were written.
+    // An integer is read as it was written, and no other bytes of it are as few.
     ensures integer_again { (z : ℤ) → FitsSigned w64 z → integer_of (shortest_integer z) ≡ Some z }
     ensures shortest_integer { (bytes : List ℕ) (z : ℤ) → IsBytes bytes → integer_of bytes ≡ Some z
         → (bytes ≡ shortest_integer z) ⊎ (length (shortest_integer z) < length bytes) }

@@ -1,8 +1,8 @@
 -- Where an entry goes among those in order of name.
-use Rattle.std.proofs.Common.{◌≡◌, ℕ, suc, ◌+◌, ◌<◌, ◌≤◌, Bool, true, false, List, [], ◌∷◌, ◌++◌, length, get_or, take, drop, refl, sym, ap, ◌∙◌, append_assoc, arith, add-one}
+use Rattle.std.proofs.Common.{◌≡◌, ℕ, suc, ◌+◌, ◌<◌, ◌≤◌, true, false, List, [], ◌∷◌, ◌++◌, length, get_or, take, drop, refl, sym, ap, ◌∙◌, append_assoc, arith, add-one}
 use Rattle.std.specs.Prelude.{insert}
 use Rattle.std.proofs.Math.Seq.{drop-cons}
-use Rattle.std.proofs.lemmas.List.{take_more, drop_all, take_all, append-nil}
+use Rattle.std.proofs.lemmas.List.{take_more, drop_all, take_all}
 use Rattle.dir_top.specs.declared.world.Added.{Added}
 use Rattle.std.specs.Ordering.{is_lt}
 use Rattle.repl_data.specs.Order.{bytes_cmp}

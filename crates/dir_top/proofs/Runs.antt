@@ -1,5 +1,5 @@
 -- How a run goes on by one line, and how a script falls into lines.
-use Rattle.std.proofs.Common.{◌≡◌, ◌≢◌, ℕ, ◌+◌, ◌<◌, ◌≤◌, Bool, true, false, List, [], ◌∷◌, ◌++◌, drop, get_or, length, Option, None, Some, Result, Ok, Err, inl, inr, refl, sym, ap, subst, ◌∙◌, append_assoc, add-one, arith, le-ltb, lt-ltb}
+use Rattle.std.proofs.Common.{◌≡◌, ◌≢◌, ℕ, ◌+◌, ◌<◌, ◌≤◌, Bool, true, false, List, [], ◌∷◌, ◌++◌, drop, get_or, length, Option, Result, Ok, Err, inl, inr, refl, sym, ap, subst, ◌∙◌, append_assoc, add-one, le-ltb, lt-ltb}
 use Rattle.std.specs.Prelude.{◌==◌, ◌||◌, MatchResult, OnOk}
 use Rattle.std.specs.List.{list_any}
 use Rattle.std.specs.Io.KnownBytes.{Appends}
@@ -12,7 +12,7 @@ use Rattle.dir_top.specs.declared.world.World.{World}
 use Rattle.dir_top.specs.declared.exec.Script.{Script}
 use Rattle.dir_top.specs.declared.status.Status.{Status}
 use Rattle.dir_top.specs.declared.status.Status.TheVariants as status
-use Rattle.dir_top.specs.Output.{LineStep, GoesOn, NotBuilt, Told, Stop, AtEnd, AtNotBuilt, told, after_text, lines_of, before_feed, Outcome}
+use Rattle.dir_top.specs.Output.{LineStep, GoesOn, NotBuilt, Told, AtNotBuilt, told, after_text, lines_of, before_feed, Outcome}
 use Rattle.dir_top.specs.Line.{line_of}
 use Rattle.dir_top.specs.Script.{script_line, step_of, line_limit}
 use Rattle.dir_top.specs.Running.{Stands, Reads}

@@ -1,5 +1,5 @@
 -- The lines of the script, each by the words that it is written with.
-use Rattle.std.specs.Prelude.{ℕ, List, [], ◌∷◌, Option, Some, None, option_map, option_and_then, codes, bytes_eq, if◌then◌else◌}
+use Rattle.std.specs.Prelude.{ℕ, List, [], ◌∷◌, Option, None, option_map, option_and_then, codes, bytes_eq, if◌then◌else◌}
 use Rattle.dir_top.specs.declared.line.Line.{Line}
 use Rattle.dir_top.specs.declared.line.Line.TheVariants.{Nodes, Clock, Connect, Input, Dump}
 use Rattle.dir_top.specs.Words.{words_of, number_in, bytes_of}

@@ -50,8 +50,9 @@ abbrev pub told : {S : Type 0} → (S → ℕ → List ℕ → LineStep S) → S
 told step s number [] = record { state = s; text = []; stop = AtEnd }
 told step s number (line ∷ lines) =
     elim (step s number line) [
-      GoesOn next text ↦ after_text text (told step next (number + 1) lines)
-    | NotBuilt ↦ record { state = s; text = []; stop = AtNotBuilt number } ]
+      | GoesOn next text ↦ after_text text (told step next (number + 1) lines)
+      | NotBuilt ↦ record { state = s; text = []; stop = AtNotBuilt number }
+    ]
 
 -- what becomes of a script
 abbrev pub told_of : {S : Type 0} → (S → ℕ → List ℕ → LineStep S) → S → List ℕ → Told S

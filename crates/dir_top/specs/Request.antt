@@ -1,5 +1,5 @@
 -- The LDAP messages that are built so far, and the replies to them (RFC 4511, sections 4.1, 4.2 and 4.7).
-use Rattle.std.specs.Prelude.{ℕ, ◌+◌, ◌-◌, Bool, ◌&&◌, nat_le, if◌then◌else◌, List, [], ◌∷◌, ◌++◌, length, take, drop, slice_index, Option, Some, None, codes, bytes_eq}
+use Rattle.std.specs.Prelude.{ℕ, ◌-◌, Bool, ◌&&◌, nat_le, if◌then◌else◌, List, [], ◌∷◌, ◌++◌, length, take, drop, slice_index, Option, Some, None, codes, bytes_eq}
 use Rattle.std.specs.List.{list_all}
 use Rattle.ber_core.specs.Element.{element}
 use Rattle.dir_top.specs.declared.request.Request.{Request}

@@ -49,7 +49,9 @@ pub(crate) fn put_dump_head(
 pub(crate) fn put_suffix(out: &mut Bytes) -> Result<(), NoMemory>
     ensures { OnOk result (out.new ≡ out.old ++ suffix_text) }
 {
-    out.extend_from_slice(b"dn: dc=example\n dc: example\n nsuniqueid: 00000000-00000000-00000000-00000000\n objectclass: domain\n objectclass: top\n")
+    out.extend_from_slice(
+        b"dn: dc=example\n dc: example\n nsuniqueid: 00000000-00000000-00000000-00000000\n objectclass: domain\n objectclass: top\n",
+    )
 }
 
 #[tactic(auto, unfolding(crate::specs::World::name_text))]

@@ -144,7 +144,14 @@ pub(crate) fn read_request(alloc: Global, bytes: &[u8]) -> Result<Option<Request
     if found.is_some() {
         return Ok(found);
     }
-    if_spelled(alloc, bytes, Request::Add { id, unit: unit_at(alloc, bytes)? })
+    if_spelled(
+        alloc,
+        bytes,
+        Request::Add {
+            id,
+            unit: unit_at(alloc, bytes)?,
+        },
+    )
 }
 
 /// What stands where an add has its unit.
@@ -159,7 +166,13 @@ fn unit_at(alloc: Global, bytes: &[u8]) -> Result<Bytes, NoMemory>
 
 /// A reply: the tag of its operation, the result code, no matched name, and the text.
 #[tactic(auto, unfolding(crate::specs::Request::reply))]
-pub(crate) fn reply(alloc: Global, id: u8, tag: u8, code: u8, text: &[u8]) -> Result<Bytes, NoMemory>
+pub(crate) fn reply(
+    alloc: Global,
+    id: u8,
+    tag: u8,
+    code: u8,
+    text: &[u8],
+) -> Result<Bytes, NoMemory>
     ensures { IfOk result (λ bytes. bytes ≡ reply id tag code text.now) }
 {
     let mut fields = Bytes::new(alloc);

@@ -79,7 +79,11 @@ fn a_last_line_without_a_line_feed_counts(rt: HostRuntime) -> Result<(), Fail> {
 fn what_is_not_built_is_told_with_its_line(rt: HostRuntime) -> Result<(), Fail> {
     let bind = b"out 1 300c02010161070a010004000400\n".as_slice();
     let table = [
-        (b"nodes 1\nvector 1\n".as_slice(), b"line 2: not yet".as_slice(), b"".as_slice()),
+        (
+            b"nodes 1\nvector 1\n".as_slice(),
+            b"line 2: not yet".as_slice(),
+            b"".as_slice(),
+        ),
         (b"nodes 1\nvector 01\n", b"line 2: not yet", b""),
         (b"nodes 2\n", b"line 1: not yet", b""),
         (b"nodes 01\n", b"line 1: not yet", b""),
@@ -88,7 +92,11 @@ fn what_is_not_built_is_told_with_its_line(rt: HostRuntime) -> Result<(), Fail> 
         (b"# a comment\n", b"line 1: not yet", b""),
         (b"nodes 1\n\nclock 1\n", b"line 2: not yet", b""),
         (b"nodes 1\nnodes 1\n", b"line 2: not yet", b""),
-        (b"nodes 1\nclock 4294967295\nclock 4294967296\n", b"line 3: not yet", b""),
+        (
+            b"nodes 1\nclock 4294967295\nclock 4294967296\n",
+            b"line 3: not yet",
+            b"",
+        ),
         (b"nodes 1\nclock 1 \n", b"line 2: not yet", b""),
         (b"nodes 1\nclock  1\n", b"line 2: not yet", b""),
         (b"nodes 1\nopen 64 1\nopen 65 1\n", b"line 3: not yet", b""),
@@ -144,11 +152,17 @@ fn the_space_of_csns_has_an_end(rt: HostRuntime) -> Result<(), Fail> {
     let mut script = Vec::from_slice(rt.alloc(), b"nodes 1\nclock 4294967295\nopen 1 1\n")?;
     let mut output = Vec::new(rt.alloc());
     for _ in 0..65536u32 {
-        script.extend_from_slice(b"in 1 302e0201026829040f6f753d612c64633d6578616d706c6530163014040b6f626a656374436c61737331050403746f70\n")?;
+        script.extend_from_slice(
+            b"in 1 302e0201026829040f6f753d612c64633d6578616d706c6530163014040b6f626a656374436c61737331050403746f70\n",
+        )?;
         output.extend_from_slice(b"out 1 300c02010269070a013204000400\n")?;
     }
-    script.extend_from_slice(b"in 1 302e0201026829040f6f753d612c64633d6578616d706c6530163014040b6f626a656374436c61737331050403746f70\n")?;
-    output.extend_from_slice(b"out 1 301d02010269180a01350400041163736e2073706163652075736564207570\n")?;
+    script.extend_from_slice(
+        b"in 1 302e0201026829040f6f753d612c64633d6578616d706c6530163014040b6f626a656374436c61737331050403746f70\n",
+    )?;
+    output.extend_from_slice(
+        b"out 1 301d02010269180a01350400041163736e2073706163652075736564207570\n",
+    )?;
     expect(&rt, script.as_slice(), 4096, 0, b"", output.as_slice())
 }
 
@@ -160,7 +174,14 @@ fn line_one_million_and_one_is_not_built(rt: HostRuntime) -> Result<(), Fail> {
     }
     expect(&rt, script.as_slice(), 4096, 0, b"", b"")?;
     script.extend_from_slice(b"clock 0\n")?;
-    expect(&rt, script.as_slice(), 4096, 8, b"line 1000001: not yet", b"")
+    expect(
+        &rt,
+        script.as_slice(),
+        4096,
+        8,
+        b"line 1000001: not yet",
+        b"",
+    )
 }
 
 #[test]
@@ -170,14 +191,20 @@ fn a_fault_leaves_a_front_of_the_output(rt: HostRuntime) -> Result<(), Fail> {
     let mut sink = MemSink::new(rt.alloc(), &[]);
     let status = exec_main(rt.alloc(), words.as_slice(), &mut source, &mut sink);
     assert_eq!(rt; status.number(), 5);
-    assert_eq!(rt; status.text(rt.alloc())?.as_slice(), b"read failed".as_slice());
+    assert_eq!(rt;
+        status.text(rt.alloc())?.as_slice(),
+        b"read failed".as_slice()
+    );
     assert_eq!(rt; sink.written(), &OUTPUT[..35]);
 
     let mut source = MemSource::new(ROW, &[]);
     let mut sink = MemSink::keeping(rt.alloc(), &[3], 5);
     let status = exec_main(rt.alloc(), words.as_slice(), &mut source, &mut sink);
     assert_eq!(rt; status.number(), 6);
-    assert_eq!(rt; status.text(rt.alloc())?.as_slice(), b"write failed".as_slice());
+    assert_eq!(rt;
+        status.text(rt.alloc())?.as_slice(),
+        b"write failed".as_slice()
+    );
     assert_eq!(rt; sink.written(), &OUTPUT[..75]);
     Ok(())
 }
@@ -192,7 +219,10 @@ fn the_words_are_exec_alone(rt: HostRuntime) -> Result<(), Fail> {
     assert_eq!(rt; status.text(rt.alloc())?.as_slice(), b"usage: ".as_slice());
     words.push(String::from_str(rt.alloc(), "now")?)?;
     let status = exec_main(rt.alloc(), words.as_slice(), &mut source, &mut sink);
-    assert_eq!(rt; status.text(rt.alloc())?.as_slice(), b"usage: now".as_slice());
+    assert_eq!(rt;
+        status.text(rt.alloc())?.as_slice(),
+        b"usage: now".as_slice()
+    );
     words.truncate(1);
     let status = exec_main(rt.alloc(), words.as_slice(), &mut source, &mut sink);
     assert_eq!(rt; status.number(), 0);

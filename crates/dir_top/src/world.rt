@@ -276,11 +276,7 @@ pub(crate) fn carry(
     }
 }
 
-fn begin(
-    alloc: Global,
-    world: &mut Option<World>,
-    line: Line,
-) -> Result<Option<Bytes>, NoMemory>
+fn begin(alloc: Global, world: &mut Option<World>, line: Line) -> Result<Option<Bytes>, NoMemory>
     requires { world.old ≡ None }
     ensures carried { IfOk result (λ o. IfSome o (λ text. line_step world.old line ≡ GoesOn world.new text)) }
     ensures foreign { IfOk result (λ o. IfNone o (line_step world.old line ≡ NotBuilt)) }
