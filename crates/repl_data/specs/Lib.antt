@@ -1,2 +1,13 @@
 pub mod Order
 pub mod Text
+pub mod Types
+pub mod Places
+pub mod Check
+pub mod Stamps
+pub mod Facts
+pub mod Presence
+pub mod Names
+pub mod Key
+pub mod View
+pub mod Plain
+pub mod Closed

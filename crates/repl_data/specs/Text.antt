@@ -1,10 +1,13 @@
--- How CSNs and ids are written.
-use Rattle.std.specs.Prelude.{ℕ, ◌^◌, ◌<◌, List, ◌++◌, take, drop, codes, Option, option_map}
+-- How CSNs, ids and names are written.
+use Rattle.std.specs.Prelude.{ℕ, ◌^◌, ◌<◌, Bool, false, ◌||◌, ◌==◌, nat_lt, List, [], ◌∷◌, ◌++◌, map, take, drop, codes, Option, option_map, if◌then◌else◌}
+use Rattle.std.specs.List.{list_any}
 use Rattle.std.specs.Result.{result_ok}
 use Rattle.std.specs.Int.{w16, w32, to_be_bytes, from_be_bytes}
 use Rattle.hex.specs.Hex.{encode_lower, decode_sized}
 use Rattle.repl_data.specs.declared.csn.Csn.{Csn}
 use Rattle.repl_data.specs.declared.csn.Uid.{Uid}
+use Rattle.repl_data.specs.declared.change.Rdn.{Rdn}
+use Rattle.repl_data.specs.declared.change.Ava.{Ava}
 
 -- the parts of a CSN are 32 and three times 16 bits; a number of these definitions has no bound of its own
 pub record IsInRange (c : Csn) : Type 0 where
@@ -39,3 +42,38 @@ abbrev pub uid_text : Uid → List ℕ
 uid_text u =
     encode_lower (to_be_bytes w32 u.csn.time) ++ codes "-" ++ encode_lower (to_be_bytes w16 u.csn.seq ++ to_be_bytes w16 u.csn.rid)
     ++ codes "-" ++ encode_lower (to_be_bytes w16 u.csn.sub) ++ codes "0000-00000000"
+
+-- a byte of a value at the place that it has in a printed name
+abbrev pub escape_always : ℕ → Bool
+escape_always b = list_any (λ c. b == c) (codes "\"+,;<>\\")
+
+abbrev pub escape_as_hex : ℕ → Bool
+escape_as_hex b = nat_lt b 32 || (b == 127)
+
+abbrev pub escaped : Bool → ℕ → List ℕ
+escaped edge b =
+    if escape_as_hex b then 92 ∷ encode_lower (b ∷ [])
+    else (if escape_always b || edge then 92 ∷ b ∷ [] else b ∷ [])
+
+-- the bytes after the first: a space at the end is escaped
+abbrev pub escaped_rest : List ℕ → List ℕ
+escaped_rest [] = []
+escaped_rest (b ∷ []) = escaped (b == 32) b
+escaped_rest (b ∷ c ∷ bs) = escaped false b ++ escaped_rest (c ∷ bs)
+
+-- a space or a `#` at the front, a space at the end, and the bytes above
+abbrev pub escaped_value : List ℕ → List ℕ
+escaped_value [] = []
+escaped_value (b ∷ bs) = escaped ((b == 32) || (b == 35)) b ++ escaped_rest bs
+
+abbrev pub ava_text : Ava → List ℕ
+ava_text a = a.attr.name ++ codes "=" ++ escaped_value a.val.spelled
+
+-- pieces with a separator between each two
+abbrev pub joined : List ℕ → List (List ℕ) → List ℕ
+joined sep [] = []
+joined sep (p ∷ []) = p
+joined sep (p ∷ q ∷ ps) = p ++ sep ++ joined sep (q ∷ ps)
+
+abbrev pub rdn_text : Rdn → List ℕ
+rdn_text rdn = joined (codes "+") (map ava_text rdn.avas)

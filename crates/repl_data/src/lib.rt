@@ -3,11 +3,17 @@
 
 mod change;
 mod csn;
+mod faults;
 mod items;
+mod laws;
+mod view;
 
 pub use change::{
     Attr, AttrKey, AttrList, Ava, AvaList, Body, Change, Malformed, Mod, ModKind, ModList, Rdn,
     Shown, ShownEntry, ShownEntryList, ShownList, Suffix, Update, Val, ValList, VectorText,
 };
 pub use csn::{Csn, CsnList, Uid, UidList};
+pub use faults::{check, weight};
 pub use items::{Bytes, BytesList, Items, NoMemory};
+pub use laws::{name_laws, presence_laws, view_laws};
+pub use view::View;

@@ -1,0 +1,15 @@
+use Rattle.attr_keys.proofs.Again.{int-again, tel-again, oct-again}
+use Rattle.attr_keys.proofs.NamesAgain.{key_of-again}
+use Rattle.attr_keys.proofs.laws.key_laws.Goals as goal
+
+pub returns-clause-name_again : goal.returns-clause-name_again
+returns-clause-name_again c = key_of-again
+
+pub returns-clause-integer_again : goal.returns-clause-integer_again
+returns-clause-integer_again c = int-again
+
+pub returns-clause-phone_again : goal.returns-clause-phone_again
+returns-clause-phone_again c = tel-again
+
+pub returns-clause-bytes_again : goal.returns-clause-bytes_again
+returns-clause-bytes_again c = oct-again

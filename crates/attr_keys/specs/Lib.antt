@@ -1,0 +1,4 @@
+pub mod Laws
+pub mod Name
+pub mod Table
+pub mod Value

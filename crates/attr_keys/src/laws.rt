@@ -1,0 +1,29 @@
+ghost use Rattle.std.specs.Prelude.{◌≡◌, ℕ, List};
+ghost use Rattle.attr_keys.specs.declared.kind.Kind.{Kind};
+ghost use Rattle.attr_keys.specs.Table.{key_of};
+ghost use Rattle.attr_keys.specs.Value.{value_key};
+ghost use Rattle.attr_keys.specs.Laws.{AreEqualNames, AreEqualValues};
+
+/// What the keys of names and values are to one another.
+///
+/// A key is the key of its own text for names, integers, phone numbers and bytes. For text it need
+/// not be: a bold capital A has no other case, so folding leaves it, and normalizing makes it an A,
+/// of which the key is a. And a space of no break alone has the empty key, which is no value.
+pub fn key_laws()
+    ensures name_again { (name : List ℕ) → key_of (key_of name) ≡ key_of name }
+    ensures integer_again { (value : List ℕ) →
+        value_key Kind.Int (value_key Kind.Int value) ≡ value_key Kind.Int value }
+    ensures phone_again { (value : List ℕ) →
+        value_key Kind.Tel (value_key Kind.Tel value) ≡ value_key Kind.Tel value }
+    ensures bytes_again { (value : List ℕ) →
+        value_key Kind.Oct (value_key Kind.Oct value) ≡ value_key Kind.Oct value }
+
+    // Equality of names, and of values of one kind, is an equivalence.
+    ensures same_name { (a : List ℕ) → AreEqualNames a a }
+    ensures names_turn { (a b : List ℕ) → AreEqualNames a b → AreEqualNames b a }
+    ensures names_join { (a b c : List ℕ) → AreEqualNames a b → AreEqualNames b c → AreEqualNames a c }
+    ensures same_value { (kind : Kind) (a : List ℕ) → AreEqualValues kind a a }
+    ensures values_turn { (kind : Kind) (a b : List ℕ) → AreEqualValues kind a b → AreEqualValues kind b a }
+    ensures values_join { (kind : Kind) (a b c : List ℕ) → AreEqualValues kind a b
+        → AreEqualValues kind b c → AreEqualValues kind a c }
+{}

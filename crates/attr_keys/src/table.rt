@@ -1,0 +1,474 @@
+ghost use Rattle.std.specs.Prelude.{◌≡◌, find};
+ghost use Rattle.std.specs.Option.{option_copied, option_map};
+ghost use Rattle.attr_keys.specs.Table.{is_named, type_of, first_name, kind_of, is_single};
+ghost use Rattle.attr_keys.specs.Table.{seen};
+
+use crate::kind::Kind;
+use crate::name::base_len;
+use repl_data::AttrKey;
+
+/// An attribute type that is known.
+#[derive(Clone, Copy, Debug)]
+pub(crate) struct TypeRow {
+    /// Its first name, in lower case, which is in the keys.
+    pub(crate) name: &'static [u8],
+    /// Its other name, or the first one again.
+    pub(crate) other: &'static [u8],
+    /// The kind of its values.
+    pub(crate) kind: Kind,
+    /// It has at most one value in an entry.
+    pub(crate) single: bool,
+}
+
+pub(crate) static TYPES: [TypeRow; 40] = [
+    TypeRow {
+        name: b"objectclass",
+        other: b"objectclass",
+        kind: Kind::Dir,
+        single: false,
+    },
+    TypeRow {
+        name: b"cn",
+        other: b"commonname",
+        kind: Kind::Dir,
+        single: false,
+    },
+    TypeRow {
+        name: b"sn",
+        other: b"surname",
+        kind: Kind::Dir,
+        single: false,
+    },
+    TypeRow {
+        name: b"givenname",
+        other: b"givenname",
+        kind: Kind::Dir,
+        single: false,
+    },
+    TypeRow {
+        name: b"initials",
+        other: b"initials",
+        kind: Kind::Dir,
+        single: false,
+    },
+    TypeRow {
+        name: b"title",
+        other: b"title",
+        kind: Kind::Dir,
+        single: false,
+    },
+    TypeRow {
+        name: b"description",
+        other: b"description",
+        kind: Kind::Dir,
+        single: false,
+    },
+    TypeRow {
+        name: b"o",
+        other: b"organizationname",
+        kind: Kind::Dir,
+        single: false,
+    },
+    TypeRow {
+        name: b"ou",
+        other: b"organizationalunitname",
+        kind: Kind::Dir,
+        single: false,
+    },
+    TypeRow {
+        name: b"l",
+        other: b"localityname",
+        kind: Kind::Dir,
+        single: false,
+    },
+    TypeRow {
+        name: b"st",
+        other: b"stateorprovincename",
+        kind: Kind::Dir,
+        single: false,
+    },
+    TypeRow {
+        name: b"street",
+        other: b"streetaddress",
+        kind: Kind::Dir,
+        single: false,
+    },
+    TypeRow {
+        name: b"c",
+        other: b"countryname",
+        kind: Kind::Dir,
+        single: true,
+    },
+    TypeRow {
+        name: b"postalcode",
+        other: b"postalcode",
+        kind: Kind::Dir,
+        single: false,
+    },
+    TypeRow {
+        name: b"postofficebox",
+        other: b"postofficebox",
+        kind: Kind::Dir,
+        single: false,
+    },
+    TypeRow {
+        name: b"uid",
+        other: b"userid",
+        kind: Kind::Dir,
+        single: false,
+    },
+    TypeRow {
+        name: b"displayname",
+        other: b"displayname",
+        kind: Kind::Dir,
+        single: true,
+    },
+    TypeRow {
+        name: b"employeenumber",
+        other: b"employeenumber",
+        kind: Kind::Dir,
+        single: true,
+    },
+    TypeRow {
+        name: b"employeetype",
+        other: b"employeetype",
+        kind: Kind::Dir,
+        single: false,
+    },
+    TypeRow {
+        name: b"departmentnumber",
+        other: b"departmentnumber",
+        kind: Kind::Dir,
+        single: false,
+    },
+    TypeRow {
+        name: b"businesscategory",
+        other: b"businesscategory",
+        kind: Kind::Dir,
+        single: false,
+    },
+    TypeRow {
+        name: b"preferredlanguage",
+        other: b"preferredlanguage",
+        kind: Kind::Dir,
+        single: true,
+    },
+    TypeRow {
+        name: b"member",
+        other: b"member",
+        kind: Kind::Dir,
+        single: false,
+    },
+    TypeRow {
+        name: b"uniquemember",
+        other: b"uniquemember",
+        kind: Kind::Dir,
+        single: false,
+    },
+    TypeRow {
+        name: b"owner",
+        other: b"owner",
+        kind: Kind::Dir,
+        single: false,
+    },
+    TypeRow {
+        name: b"manager",
+        other: b"manager",
+        kind: Kind::Dir,
+        single: false,
+    },
+    TypeRow {
+        name: b"seealso",
+        other: b"seealso",
+        kind: Kind::Dir,
+        single: false,
+    },
+    TypeRow {
+        name: b"labeleduri",
+        other: b"labeleduri",
+        kind: Kind::Exact,
+        single: false,
+    },
+    TypeRow {
+        name: b"homedirectory",
+        other: b"homedirectory",
+        kind: Kind::Exact,
+        single: true,
+    },
+    TypeRow {
+        name: b"loginshell",
+        other: b"loginshell",
+        kind: Kind::Exact,
+        single: true,
+    },
+    TypeRow {
+        name: b"dc",
+        other: b"domaincomponent",
+        kind: Kind::Ia5,
+        single: true,
+    },
+    TypeRow {
+        name: b"mail",
+        other: b"rfc822mailbox",
+        kind: Kind::Ia5,
+        single: false,
+    },
+    TypeRow {
+        name: b"memberuid",
+        other: b"memberuid",
+        kind: Kind::Ia5,
+        single: false,
+    },
+    TypeRow {
+        name: b"gecos",
+        other: b"gecos",
+        kind: Kind::Ia5,
+        single: true,
+    },
+    TypeRow {
+        name: b"uidnumber",
+        other: b"uidnumber",
+        kind: Kind::Int,
+        single: true,
+    },
+    TypeRow {
+        name: b"gidnumber",
+        other: b"gidnumber",
+        kind: Kind::Int,
+        single: true,
+    },
+    TypeRow {
+        name: b"telephonenumber",
+        other: b"telephonenumber",
+        kind: Kind::Tel,
+        single: false,
+    },
+    TypeRow {
+        name: b"mobile",
+        other: b"mobile",
+        kind: Kind::Tel,
+        single: false,
+    },
+    TypeRow {
+        name: b"userpassword",
+        other: b"userpassword",
+        kind: Kind::Oct,
+        single: false,
+    },
+    TypeRow {
+        name: b"jpegphoto",
+        other: b"jpegphoto",
+        kind: Kind::Oct,
+        single: false,
+    },
+];
+
+fn row_in<'a>(rows: &'a [TypeRow], base: &[u8]) -> Option<&'a TypeRow>
+    ensures { option_copied result ≡ find (λ r. is_named base.now (seen r)) rows.now }
+{
+    rows.iter()
+        .find(|row| row.name == base || row.other == base)
+}
+
+fn row_of(base: &[u8]) -> Option<&'static TypeRow>
+    ensures { option_map seen (option_copied result) ≡ type_of base.now }
+{
+    row_in(&TYPES, base)
+}
+
+/// The first name of the type that has this name in lower case, or the name itself.
+pub(crate) fn first_name<'a>(base: &'a [u8]) -> &'a [u8]
+    ensures { result.now ≡ first_name base.now }
+{
+    match row_of(base) {
+        Some(row) => row.name,
+        None => base,
+    }
+}
+
+/// The kind of an attribute's values, which its name without the options decides. A type that is not
+/// known is `Kind::Dir`. In constant time but for the length of the name.
+#[tactic(auto, unfolding(crate::specs::Table::kind_of))]
+pub fn kind_of(attr: &AttrKey) -> Kind
+    ensures { result ≡ kind_of attr.now.name }
+{
+    let name = attr.name.as_slice();
+    match row_of(&name[..base_len(name)]) {
+        Some(row) => row.kind,
+        None => Kind::Dir,
+    }
+}
+
+/// Whether an entry has at most one value of the attribute (RFC 4512, section 4.1.2: SINGLE-VALUE),
+/// which its name without the options decides. A type that is not known is multi-valued.
+#[tactic(auto, unfolding(crate::specs::Table::is_single))]
+pub fn is_single(attr: &AttrKey) -> bool
+    ensures { result ≡ is_single attr.now.name }
+{
+    let name = attr.name.as_slice();
+    match row_of(&name[..base_len(name)]) {
+        Some(row) => row.single,
+        None => false,
+    }
+}
+
+#[cfg(test)]
+mod tests {
+    use super::*;
+    use crate::name::attr_key;
+    use crate::value::value_key;
+    use std::alloc::Global;
+    use std::process::Abort;
+    use std::test::Fail;
+
+    /// Each of the names, which stand with one space between them, has this kind and this count of
+    /// values, accepts the one value and refuses the other.
+    fn try_types(
+        rt: &impl Abort,
+        alloc: Global,
+        names: &[u8],
+        kind: Kind,
+        single: bool,
+        good: &[u8],
+        bad: Option<&[u8]>,
+    ) -> Result<(), Fail> {
+        for name in names.split(|b| *b == b' ') {
+            let attr = attr_key(alloc, name).ok().ok_or("a name")?;
+            assert_eq!(rt; kind_of(&attr), kind, "at {name:?}");
+            assert_eq!(rt; is_single(&attr), single, "at {name:?}");
+            assert!(rt; value_key(alloc, &attr, good).is_ok());
+            if let Some(bad) = bad {
+                assert!(rt; value_key(alloc, &attr, bad).is_err());
+            }
+        }
+        Ok(())
+    }
+
+    #[test]
+    fn each_type_accepts_a_value_of_its_kind_and_refuses_another(
+        rt: HostRuntime,
+    ) -> Result<(), Fail> {
+        try_types(
+            &rt,
+            rt.alloc(),
+            b"objectclass cn sn givenname initials title description o ou".as_slice(),
+            Kind::Dir,
+            false,
+            b"a".as_slice(),
+            Some(b" ".as_slice()),
+        )?;
+        try_types(
+            &rt,
+            rt.alloc(),
+            b"l st street postalcode postofficebox uid employeetype departmentnumber businesscategory".as_slice(),
+            Kind::Dir,
+            false,
+            b"a".as_slice(),
+            Some(b" ".as_slice()),
+        )?;
+        try_types(
+            &rt,
+            rt.alloc(),
+            b"member uniquemember owner manager seealso".as_slice(),
+            Kind::Dir,
+            false,
+            b"a".as_slice(),
+            Some(b" ".as_slice()),
+        )?;
+        try_types(
+            &rt,
+            rt.alloc(),
+            b"c displayname employeenumber preferredlanguage".as_slice(),
+            Kind::Dir,
+            true,
+            b"a".as_slice(),
+            Some(b" ".as_slice()),
+        )?;
+        try_types(
+            &rt,
+            rt.alloc(),
+            b"labeleduri".as_slice(),
+            Kind::Exact,
+            false,
+            b"a".as_slice(),
+            Some(b" ".as_slice()),
+        )?;
+        try_types(
+            &rt,
+            rt.alloc(),
+            b"homedirectory loginshell".as_slice(),
+            Kind::Exact,
+            true,
+            b"a".as_slice(),
+            Some(b" ".as_slice()),
+        )?;
+        try_types(
+            &rt,
+            rt.alloc(),
+            b"dc gecos".as_slice(),
+            Kind::Ia5,
+            true,
+            b"a".as_slice(),
+            Some(b" ".as_slice()),
+        )?;
+        try_types(
+            &rt,
+            rt.alloc(),
+            b"mail memberuid".as_slice(),
+            Kind::Ia5,
+            false,
+            b"a".as_slice(),
+            Some(b" ".as_slice()),
+        )?;
+        try_types(
+            &rt,
+            rt.alloc(),
+            b"uidnumber gidnumber".as_slice(),
+            Kind::Int,
+            true,
+            b"1".as_slice(),
+            Some(b"01".as_slice()),
+        )?;
+        try_types(
+            &rt,
+            rt.alloc(),
+            b"telephonenumber mobile".as_slice(),
+            Kind::Tel,
+            false,
+            b"1".as_slice(),
+            Some(b"-".as_slice()),
+        )?;
+        try_types(
+            &rt,
+            rt.alloc(),
+            b"userpassword jpegphoto".as_slice(),
+            Kind::Oct,
+            false,
+            b"1".as_slice(),
+            None,
+        )?;
+        Ok(())
+    }
+
+    #[test]
+    fn a_type_that_is_not_known_is_text_of_many_values(rt: HostRuntime) -> Result<(), Fail> {
+        try_types(
+            &rt,
+            rt.alloc(),
+            b"x-new;y".as_slice(),
+            Kind::Dir,
+            false,
+            b"a".as_slice(),
+            None,
+        )?;
+        try_types(
+            &rt,
+            rt.alloc(),
+            b"uidNumber;y".as_slice(),
+            Kind::Int,
+            true,
+            b"1".as_slice(),
+            None,
+        )
+    }
+}

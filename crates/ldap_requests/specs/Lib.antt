@@ -1,0 +1,5 @@
+pub mod Window
+pub mod Grammar
+pub mod Spelling
+pub mod Laws
+pub mod Cursor

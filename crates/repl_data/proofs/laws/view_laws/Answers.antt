@@ -1,0 +1,20 @@
+use Rattle.repl_data.proofs.SameSet.{view_of-same, distinct}
+use Rattle.repl_data.proofs.Repeats.{own_facts-again}
+use Rattle.repl_data.proofs.Arrival.{closed_of_arrival, target_known, first_of_entry}
+use Rattle.repl_data.proofs.Steps.{all_facts-append}
+use Rattle.repl_data.proofs.laws.view_laws.Goals as goal
+
+pub returns-clause-order : goal.returns-clause-order
+returns-clause-order c = view_of-same
+
+pub returns-clause-again : goal.returns-clause-again
+returns-clause-again c = λ suffix u own d once sound m. own_facts-again suffix u own d (distinct own once sound) m
+
+pub returns-clause-arrival : goal.returns-clause-arrival
+returns-clause-arrival c = closed_of_arrival
+
+pub returns-clause-next : goal.returns-clause-next
+returns-clause-next c = λ suffix xs d a. all_facts-append suffix xs d (target_known xs d a)
+
+pub returns-clause-added : goal.returns-clause-added
+returns-clause-added c = first_of_entry

@@ -1,0 +1,50 @@
+ghost use Rattle.std.specs.Prelude.{◌≡◌, ◌||◌, Bool, true, false, List, [], ◌∷◌, ◌++◌, IsTrue, map, filter};
+ghost use Rattle.std.specs.List.{AllByRecursion, list_all, list_any};
+ghost use Rattle.repl_data.specs.declared.csn.Uid.{Uid};
+ghost use Rattle.repl_data.specs.declared.change.Change.{Change};
+ghost use Rattle.repl_data.specs.declared.change.Suffix.{Suffix};
+ghost use Rattle.repl_data.specs.Order.{uid_cmp, rdn_key};
+ghost use Rattle.repl_data.specs.Text.{IsInRange};
+ghost use Rattle.repl_data.specs.Stamps.{of_entry};
+ghost use Rattle.repl_data.specs.Closed.{IsClosed, IsArrival, IsIn, SameChanges, all_differ, is_sound};
+ghost use Rattle.repl_data.specs.Facts.{EntryFacts, all_facts, own_facts};
+ghost use Rattle.repl_data.specs.Presence.{is_live, is_child, present_of, HasParentBelow, ObeysRule, is_present_in, StandsIn};
+ghost use Rattle.repl_data.specs.Names.{has_id, shown_rdn};
+ghost use Rattle.repl_data.specs.Order.{put_by};
+ghost use Rattle.repl_data.specs.View.{view_of};
+
+/// The view of a set of changes does not depend on the list that spells it.
+pub fn view_laws()
+    // Closed sets with the same changes have equal views, whatever the order.
+    ensures order { (suffix : Suffix) (xs ys : List Change) → IsClosed xs → IsClosed ys → SameChanges xs ys → view_of suffix xs ≡ view_of suffix ys }
+
+    // A change that comes again says nothing more of its entry.
+    ensures again { (suffix : Suffix) (u : Uid) (own : List Change) (c : Change) → IsTrue (all_differ (map (λ (d : Change). d.csn) own)) → IsTrue (list_all is_sound own) → IsIn c own → own_facts suffix u (own ++ c ∷ []) ≡ own_facts suffix u own }
+
+    // An order of arrival is a closed set.
+    ensures arrival { (xs : List Change) → IsArrival xs → IsClosed xs }
+
+    // The next change of an order of arrival changes what is known of one entry: its target.
+    ensures next { (suffix : Suffix) (xs : List Change) (c : Change) → IsArrival (xs ++ c ∷ []) → all_facts suffix (xs ++ c ∷ []) ≡ put_by (λ (e : EntryFacts). e.id) uid_cmp (own_facts suffix c.target (of_entry xs c.target ++ c ∷ [])) (all_facts suffix xs) }
+
+    // An Add is the first change of its entry.
+    ensures added { (xs : List Change) (c : Change) → IsArrival (xs ++ c ∷ []) → c.target.csn ≡ c.csn → of_entry xs c.target ≡ [] }
+{}
+
+/// Presence is well founded, and the one solution of its rule.
+pub fn presence_laws()
+    // Each entry but the suffix entry has its parent below it.
+    ensures below { (suffix : Suffix) (xs : List Change) → IsClosed xs → AllByRecursion HasParentBelow (all_facts suffix xs) }
+
+    // An entry is present exactly if it is live or has a present child.
+    ensures rule { (suffix : Suffix) (xs : List Change) → IsClosed xs → AllByRecursion (λ e. is_present_in (all_facts suffix xs) e ≡ (is_live e || list_any (is_child e.id) (present_of (all_facts suffix xs)))) (all_facts suffix xs) }
+
+    // No other choice among the entries obeys this rule.
+    ensures only { (suffix : Suffix) (xs : List Change) (p : EntryFacts → Bool) → IsClosed xs → AllByRecursion (ObeysRule p (all_facts suffix xs)) (all_facts suffix xs) → filter p (all_facts suffix xs) ≡ present_of (all_facts suffix xs) }
+{}
+
+/// Of the present entries with one parent no two show the same relative name, where no name has a part
+/// `nsuniqueid` of its own and one CSN names one entry.
+pub fn name_laws()
+    ensures { (present : List EntryFacts) (p : Uid) (e f : EntryFacts) → StandsIn e present → StandsIn f present → is_child p e ≡ true → is_child p f ≡ true → has_id e.rdn ≡ false → has_id f.rdn ≡ false → IsInRange e.id.csn → IsInRange f.id.csn → (e.named ≡ f.named → e.id ≡ f.id) → rdn_key (shown_rdn present e) ≡ rdn_key (shown_rdn present f) → e.id ≡ f.id }
+{}

@@ -1,0 +1,47 @@
+ghost use Rattle.std.specs.Prelude.{◌≡◌, IfOk};
+ghost use Rattle.std.specs.Option.{option_copied};
+ghost use Rattle.repl_data.specs.Order.{suffix_id};
+ghost use Rattle.repl_data.specs.View.{DirectoryView, child_of, children_of, entry_of, tombstones_of, tombstone_of, name_of, parent_of};
+
+use crate::change::{Rdn, ShownEntry};
+use crate::csn::{Uid, UidList};
+use crate::items::NoMemory;
+use std::alloc::Global;
+
+/// A view of the entries of a suffix, however it is kept.
+pub trait View {
+    /// The view that it stands for.
+    ghost view: { Self → DirectoryView };
+
+    /// The suffix entry.
+    fn root(&self) -> Uid
+        ensures { result ≡ suffix_id };
+
+    /// The child that shows this RDN.
+    fn child(&self, parent: Uid, rdn: &Rdn) -> Option<Uid>
+        ensures { result ≡ child_of (view self.now) parent rdn.now };
+
+    /// The children, in order of shown RDN key.
+    fn children(&self, alloc: Global, parent: Uid) -> Result<UidList, NoMemory>
+        ensures { IfOk result (λ ids. ids ≡ children_of (view self.now) parent) };
+
+    /// A present entry, as it shows.
+    fn entry(&self, alloc: Global, id: Uid) -> Result<Option<ShownEntry>, NoMemory>
+        ensures { IfOk result (λ entry. entry ≡ entry_of (view self.now) id) };
+
+    /// The tombstones, in order of id.
+    fn tombstones(&self, alloc: Global) -> Result<UidList, NoMemory>
+        ensures { IfOk result (λ ids. ids ≡ tombstones_of (view self.now)) };
+
+    /// A tombstone, as it shows.
+    fn tombstone(&self, alloc: Global, id: Uid) -> Result<Option<ShownEntry>, NoMemory>
+        ensures { IfOk result (λ entry. entry ≡ tombstone_of (view self.now) id) };
+
+    /// The name of a present entry or a tombstone.
+    fn name(&self, id: Uid) -> Option<&Rdn>
+        ensures { option_copied result ≡ name_of (view self.now) id };
+
+    /// The parent of a present entry or a tombstone.
+    fn parent(&self, id: Uid) -> Option<Uid>
+        ensures { result ≡ parent_of (view self.now) id };
+}

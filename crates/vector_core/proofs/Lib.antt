@@ -1,0 +1,5 @@
+pub mod Lists
+pub mod Orders
+pub mod Greatests
+pub mod Entries
+pub mod Texts
