@@ -1,6 +1,6 @@
 -- How a run goes on by one line, and how a script falls into lines.
-use Rattle.std.proofs.Common.{◌≡◌, ◌≢◌, ℕ, ◌+◌, ◌<◌, ◌≤◌, Bool, true, false, List, [], ◌∷◌, ◌++◌, drop, get_or, length, Option, Result, Ok, Err, inl, inr, refl, sym, ap, subst, ◌∙◌, append_assoc, add-one, le-ltb, lt-ltb}
-use Rattle.std.specs.Prelude.{◌==◌, ◌||◌, MatchResult, OnOk}
+use Rattle.std.proofs.Common.{◌≡◌, ◌≢◌, ℕ, ◌+◌, ◌<◌, ◌≤◌, Bool, true, false, List, [], ◌∷◌, ◌++◌, drop, get_or, length, Option, None, Some, Result, Ok, Err, inl, inr, refl, sym, ap, subst, ◌∙◌, append_assoc, length-append, add-one, arith, le-ltb, lt-ltb}
+use Rattle.std.specs.Prelude.{◌==◌, ◌||◌, if◌then◌else◌, MatchResult, OnOk}
 use Rattle.std.specs.List.{list_any}
 use Rattle.std.specs.Io.KnownBytes.{Appends}
 use Rattle.std.proofs.KnownBytes.{Appends-trans}
@@ -12,28 +12,45 @@ use Rattle.dir_top.specs.declared.world.World.{World}
 use Rattle.dir_top.specs.declared.exec.Script.{Script}
 use Rattle.dir_top.specs.declared.status.Status.{Status}
 use Rattle.dir_top.specs.declared.status.Status.TheVariants as status
-use Rattle.dir_top.specs.Output.{LineStep, GoesOn, NotBuilt, Told, AtNotBuilt, told, after_text, lines_of, before_feed, Outcome}
+use Rattle.dir_top.specs.Output.{LineStep, GoesOn, Refuses, NotBuilt, TooMany, Told, Stop, AtEnd, AtRefused, AtNotBuilt, AtTooMany, told, after_text, onto_first, lines_of, before_feed, content_of, Outcome}
+use Rattle.std.specs.Str.Lines.{strip_carriage_return}
+use Rattle.dir_top.specs.declared.why.LineWhy.{LineWhy}
+use Rattle.dir_top.specs.declared.why.LineWhy.TheVariants.{LongLine}
 use Rattle.dir_top.specs.Line.{line_of}
-use Rattle.dir_top.specs.Script.{script_line, step_of, line_limit}
-use Rattle.dir_top.specs.Running.{Stands, Reads}
+use Rattle.dir_top.specs.Script.{script_line, step_of, line_limit, length_limit}
+use Rattle.dir_top.specs.Running.{Stands, Reads, content_at}
 
 -- ---- the meaning of a line
 
--- a line within the limit means what its words do
-pub within_limit : (w : Option World) (number : ℕ) (raw text : List ℕ) (r : LineStep (Option World)) → number ≤ line_limit → before_feed raw ≡ text
-    → step_of w (line_of text) ≡ r → script_line w number raw ≡ r
-within_limit w number raw text r le is means = rw (le-ltb line_limit number le) (ap (λ (t : List ℕ). step_of w (line_of t)) is ∙ means)
+-- a line within the limits means what its words do
+pub within_limits : (w : Option World) (number : ℕ) (raw text : List ℕ) (r : LineStep (Option World)) → number ≤ line_limit → length (before_feed raw) ≤ length_limit
+    → content_of raw ≡ text → step_of w (line_of text) ≡ r → script_line w number raw ≡ r
+within_limits w number raw text r le short is means =
+    rw (le-ltb line_limit number le, le-ltb length_limit (length (before_feed raw)) short) (ap (λ (t : List ℕ). step_of w (line_of t)) is ∙ means)
 
--- no line beyond the limit is built
-pub beyond_limit : (w : Option World) (number : ℕ) (raw : List ℕ) → line_limit < number → script_line w number raw ≡ NotBuilt
+-- beyond the greatest number of lines there are too many
+beyond_limit : (w : Option World) (number : ℕ) (raw : List ℕ) → line_limit < number → script_line w number raw ≡ TooMany
 beyond_limit w number raw lt = rw (lt-ltb line_limit number lt) refl
+
+-- a line that is too long
+too_long : (w : Option World) (number : ℕ) (raw : List ℕ) → number ≤ line_limit → length_limit < length (before_feed raw) → script_line w number raw ≡ Refuses LongLine
+too_long w number raw le lt = rw (le-ltb line_limit number le, lt-ltb length_limit (length (before_feed raw)) lt) refl
 
 -- ---- one line more
 
+-- what becomes of the lines after a step
+abbrev after_step : Option World → ℕ → List (List ℕ) → LineStep (Option World) → Told (Option World)
+after_step w number after s =
+    elim s [
+      | GoesOn next text ↦ after_text text (told script_line next (number + 1) after)
+      | Refuses why ↦ record { state = w; text = []; stop = AtRefused number why }
+      | NotBuilt ↦ record { state = w; text = []; stop = AtNotBuilt number }
+      | TooMany ↦ record { state = w; text = []; stop = AtTooMany }
+    ]
+
 told_next : (w new : Option World) (number : ℕ) (raw : List ℕ) (after : List (List ℕ)) (piece : List ℕ) → script_line w number raw ≡ GoesOn new piece
     → told script_line w number (raw ∷ after) ≡ after_text piece (told script_line new (number + 1) after)
-told_next w new number raw after piece is =
-    ap (λ (s : LineStep (Option World)). elim s [ GoesOn next text ↦ after_text text (told script_line next (number + 1) after) | NotBuilt ↦ record { state = w; text = []; stop = AtNotBuilt number } ]) is
+told_next w new number raw after piece is = ap (after_step w number after) is
 
 regrouped : (a b : List ℕ) (t : Told (Option World)) → after_text a (after_text b t) ≡ after_text (a ++ b) t
 regrouped a b t = λ i. record { state = t.state; text = sym (append_assoc a b t.text) i; stop = t.stop }
@@ -71,14 +88,35 @@ pub wrote_so_far : (whole : Told (Option World)) (ahead : List (List ℕ)) (scri
 wrote_so_far whole ahead script old now stands =
     (stands.printed, (told script_line script.world (script.lines + 1) ahead).text, ap (λ (t : Told (Option World)). t.text) stands.same, stands.written)
 
--- the line is not built
+-- the script stops before the line
+stops_at : (whole : Told (Option World)) (raw : List ℕ) (after : List (List ℕ)) (script : Script) (old now : Option (List ℕ)) (stop : Stop)
+    → Stands whole (raw ∷ after) script old now → told script_line script.world (script.lines + 1) (raw ∷ after) ≡ record { state = script.world; text = []; stop = stop }
+    → (whole.stop ≡ stop) × Appends old now whole.text
+stops_at whole raw after script old now stop stands stopped =
+    let all = stands.same ∙ ap (after_text stands.printed) stopped in
+    (ap (λ (t : Told (Option World)). t.stop) all, subst (λ (x : List ℕ). Appends old now x) (sym (ap (λ (t : Told (Option World)). t.text) all ∙ append-nil stands.printed)) stands.written)
+
+pub is_refused : (whole : Told (Option World)) (raw : List ℕ) (after : List (List ℕ)) (script : Script) (old now : Option (List ℕ)) (why : LineWhy)
+    → Stands whole (raw ∷ after) script old now → script_line script.world (script.lines + 1) raw ≡ Refuses why → Outcome whole (status.ScriptRefused (script.lines + 1) why) old now
+is_refused whole raw after script old now why stands is =
+    stops_at whole raw after script old now (AtRefused (script.lines + 1) why) stands (ap (after_step script.world (script.lines + 1) after) is)
+
 pub is_not_yet : (whole : Told (Option World)) (raw : List ℕ) (after : List (List ℕ)) (script : Script) (old now : Option (List ℕ))
     → Stands whole (raw ∷ after) script old now → script_line script.world (script.lines + 1) raw ≡ NotBuilt → Outcome whole (status.NotYet (script.lines + 1)) old now
 is_not_yet whole raw after script old now stands is =
-    let stopped : told script_line script.world (script.lines + 1) (raw ∷ after) ≡ record { state = script.world; text = []; stop = AtNotBuilt (script.lines + 1) } =
-    ap (λ (s : LineStep (Option World)). elim s [ GoesOn next text ↦ after_text text (told script_line next (script.lines + 1 + 1) after) | NotBuilt ↦ record { state = script.world; text = []; stop = AtNotBuilt (script.lines + 1) } ]) is in
-    let all = stands.same ∙ ap (after_text stands.printed) stopped in
-    (ap (λ (t : Told (Option World)). t.stop) all, subst (λ (x : List ℕ). Appends old now x) (sym (ap (λ (t : Told (Option World)). t.text) all ∙ append-nil stands.printed)) stands.written)
+    stops_at whole raw after script old now (AtNotBuilt (script.lines + 1)) stands (ap (after_step script.world (script.lines + 1) after) is)
+
+pub is_too_many : (whole : Told (Option World)) (raw : List ℕ) (after : List (List ℕ)) (script : Script) (old now : Option (List ℕ))
+    → Stands whole (raw ∷ after) script old now → script.lines ≡ line_limit → Outcome whole status.TooLong old now
+is_too_many whole raw after script old now stands all =
+    stops_at whole raw after script old now AtTooMany stands
+    (ap (after_step script.world (script.lines + 1) after) (beyond_limit script.world (script.lines + 1) raw (omega arith)))
+
+pub is_long_line : (whole : Told (Option World)) (raw : List ℕ) (after : List (List ℕ)) (script : Script) (old now : Option (List ℕ))
+    → length_limit < length (before_feed raw) → Stands whole (raw ∷ after) script old now → script.lines + 1 ≤ line_limit
+    → Outcome whole (status.ScriptRefused (script.lines + 1) LongLine) old now
+is_long_line whole raw after script old now long stands some =
+    is_refused whole raw after script old now LongLine stands (too_long script.world (script.lines + 1) raw some long)
 
 -- no line is left
 pub is_done : (whole : Told (Option World)) (script : Script) (old now : Option (List ℕ)) → Stands whole [] script old now → Outcome whole status.Done old now
@@ -122,7 +160,21 @@ before_feed-last (b ∷ line) h =
     let parts = neither (b == 10) (list_any (λ c. c == 10) line) h in
     rw (parts.0, before_feed-last line parts.1) refl
 
-any_pushed : (line : List ℕ) (byte : ℕ) → HasNoFeed line → byte ≢ 10 → HasNoFeed (line ++ byte ∷ [])
+any_feed : (line : List ℕ) → list_any (λ b. b == 10) (line ++ 10 ∷ []) ≡ true
+any_feed [] = refl
+any_feed (b ∷ line) = rw (any_feed line) (or_true (b == 10))
+  where
+    or_true : (a : Bool) → (a || true) ≡ true
+    or_true true = refl
+    or_true false = refl
+
+pub content_of-ended : (line : List ℕ) → HasNoFeed line → content_of (line ++ 10 ∷ []) ≡ content_at true line
+content_of-ended line h = rw (any_feed line) (ap strip_carriage_return (before_feed-ended line h))
+
+pub content_of-last : (line : List ℕ) → HasNoFeed line → content_of line ≡ content_at false line
+content_of-last line h = rw h refl
+
+pub any_pushed : (line : List ℕ) (byte : ℕ) → HasNoFeed line → byte ≢ 10 → HasNoFeed (line ++ byte ∷ [])
 any_pushed [] byte h other = elim (eqb_tells byte 10) [ inl same ↦ absurd (other same.1) | inr apart ↦ rw apart.0 refl ]
 any_pushed (b ∷ line) byte h other =
     let parts = neither (b == 10) (list_any (λ c. c == 10) line) h in
@@ -154,6 +206,40 @@ ends_last whole script old now some reads = subst (λ (ahead : List (List ℕ)).
     last : (line : List ℕ) → line ≢ [] → HasNoFeed line → lines_of (line ++ []) ≡ line ∷ []
     last [] some part = absurd (some refl)
     last (b ∷ line) some part = ap lines_of (append-nil (b ∷ line)) ∙ lines_of-last b line part
+
+-- a first line that has begun is at least as long as what has come of it
+begins : (b : ℕ) (xs rest : List ℕ) → HasNoFeed (b ∷ xs)
+    → (raw : List ℕ) × (after : List (List ℕ)) × (lines_of (b ∷ (xs ++ rest)) ≡ raw ∷ after) × (length (b ∷ xs) ≤ length (before_feed raw))
+unfolding lines_of
+begins b [] rest h = let parts = neither (b == 10) false h in first parts.0 (lines_of rest)
+  where
+    first : (b == 10) ≡ false → (ls : List (List ℕ))
+        → (raw : List ℕ) × (after : List (List ℕ)) × ((if b == 10 then (10 ∷ []) ∷ ls else onto_first b ls) ≡ raw ∷ after) × (1 ≤ length (before_feed raw))
+    first e [] = (b ∷ [], [], rw e refl, rw e (omega arith))
+    first e (l ∷ ls) = (b ∷ l, ls, rw e refl, rw e (omega arith))
+begins b (d ∷ xs) rest h =
+    let parts = neither (b == 10) (list_any (λ c. c == 10) (d ∷ xs)) h in
+    more parts.0 (begins d xs rest parts.1)
+  where
+    more : (b == 10) ≡ false → (raw : List ℕ) × (after : List (List ℕ)) × (lines_of (d ∷ (xs ++ rest)) ≡ raw ∷ after) × (length (d ∷ xs) ≤ length (before_feed raw))
+        → (raw : List ℕ) × (after : List (List ℕ)) × (lines_of (b ∷ (d ∷ (xs ++ rest))) ≡ raw ∷ after) × (length (b ∷ d ∷ xs) ≤ length (before_feed raw))
+    more e (raw, after, is, le) = (b ∷ raw, after, rw (e, is) refl, rw e (omega arith))
+
+-- the line that is read is too long with this byte
+pub grows_too_long : (whole : Told (Option World)) (byte : ℕ) (rest : List ℕ) (script : Script) (old now : Option (List ℕ)) → byte ≢ 10 → length script.line ≡ length_limit
+    → Reads whole (byte ∷ rest) script old now
+    → (raw : List ℕ) × (after : List (List ℕ)) × Stands whole (raw ∷ after) script old now × (length_limit < length (before_feed raw))
+grows_too_long whole byte rest script old now other full reads = found (script.line ++ byte ∷ []) (any_pushed script.line byte reads.part other) (omega (arith, length-append script.line (byte ∷ []))) (sym (append_assoc script.line (byte ∷ []) rest))
+  where
+    found : (line : List ℕ) → HasNoFeed line → length_limit < length line → script.line ++ byte ∷ rest ≡ line ++ rest
+        → (raw : List ℕ) × (after : List (List ℕ)) × Stands whole (raw ∷ after) script old now × (length_limit < length (before_feed raw))
+    found [] h long is = absurd (omega arith)
+    found (b ∷ line) h long is = stands_at (begins b line rest h)
+      where
+        stands_at : (raw : List ℕ) × (after : List (List ℕ)) × (lines_of (b ∷ (line ++ rest)) ≡ raw ∷ after) × (length (b ∷ line) ≤ length (before_feed raw))
+            → (raw : List ℕ) × (after : List (List ℕ)) × Stands whole (raw ∷ after) script old now × (length_limit < length (before_feed raw))
+        stands_at (raw, after, lines, le) =
+            (raw, after, subst (λ (ahead : List (List ℕ)). Stands whole ahead script old now) (ap lines_of is ∙ lines) reads.stands, omega arith)
 
 -- after the end of a line nothing of the next one has come
 pub after_line : (whole : Told (Option World)) (rest : List ℕ) (script : Script) (old now : Option (List ℕ)) (r : Result (Unit {0}) Status) (Q : Status → Type 0)

@@ -4,5 +4,6 @@ pub mod Request
 pub mod Running
 pub mod Script
 pub mod Status
+pub mod Step
 pub mod Words
 pub mod World

@@ -1,10 +1,13 @@
 -- What a script writes: its lines are carried out one after the other, each on the state that the one before left, up to
 -- the first that is not. Only the meaning of one line differs from one state of the program to the next.
 use Rattle.std.specs.Prelude.{◌≡◌, ℕ, ◌+◌, ◌==◌, if◌then◌else◌, List, [], ◌∷◌, ◌++◌, Option}
+use Rattle.std.specs.List.{list_any}
+use Rattle.std.specs.Str.Lines.{strip_carriage_return}
 use Rattle.std.specs.Io.KnownBytes.{Appends}
 use Rattle.io_edge.specs.Edge.{AppendsFront}
 use Rattle.dir_top.specs.declared.status.Status.{Status}
-use Rattle.dir_top.specs.declared.status.Status.TheVariants.{Done, Usage, ReadFault, WriteFault, NoMemory, NotYet}
+use Rattle.dir_top.specs.declared.status.Status.TheVariants.{Done, Usage, ScriptRefused, TooLong, ReadFault, WriteFault, NoMemory, NotYet}
+use Rattle.dir_top.specs.declared.why.LineWhy.{LineWhy}
 
 -- ---- lines
 
@@ -23,17 +26,26 @@ abbrev pub before_feed : List ℕ → List ℕ
 before_feed [] = []
 before_feed (b ∷ bytes) = if b == 10 then [] else b ∷ before_feed bytes
 
+-- what stands before the line feed, without the carriage return that may stand just before it; a line that has no line
+-- feed keeps it
+abbrev pub content_of : List ℕ → List ℕ
+content_of line = if list_any (λ b. b == 10) line then strip_carriage_return (before_feed line) else line
+
 -- ---- the lines one after the other
 
--- what a line does: it leads on to the next state and writes a text, or it is not built yet
+-- what a line does: it leads on to the next state and writes a text, or the script stops before it
 pub data LineStep (S : Type 0) : Type 0 where
   GoesOn : (next : S) → (text : List ℕ) → LineStep S
+  Refuses : (why : LineWhy) → LineStep S
   NotBuilt : LineStep S
+  TooMany : LineStep S
 
 -- where a script stops: after its last line, or before the line of this number
 pub data Stop : Type 0 where
   AtEnd : Stop
+  AtRefused : (line : ℕ) → (why : LineWhy) → Stop
   AtNotBuilt : (line : ℕ) → Stop
+  AtTooMany : Stop
 
 -- what has become of a script
 pub record Told (S : Type 0) : Type 0 where
@@ -51,7 +63,9 @@ told step s number [] = record { state = s; text = []; stop = AtEnd }
 told step s number (line ∷ lines) =
     elim (step s number line) [
       | GoesOn next text ↦ after_text text (told step next (number + 1) lines)
+      | Refuses why ↦ record { state = s; text = []; stop = AtRefused number why }
       | NotBuilt ↦ record { state = s; text = []; stop = AtNotBuilt number }
+      | TooMany ↦ record { state = s; text = []; stop = AtTooMany }
     ]
 
 -- what becomes of a script
@@ -60,11 +74,13 @@ told_of step start bytes = told step start 1 (lines_of bytes)
 
 -- ---- the status
 
--- What a status says: the script ended, or stopped at this line, with its whole text written. After any other status but
+-- What a status says: the script ended, or stopped before this line, with its whole text written. After any other status but
 -- `Usage`, which is of the words alone, a front of that text was written.
 abbrev pub Outcome : {S : Type 0} → Told S → Status → Option (List ℕ) → Option (List ℕ) → Type 0
 Outcome t Done old new = (t.stop ≡ AtEnd) × Appends old new t.text
+Outcome t (ScriptRefused line why) old new = (t.stop ≡ AtRefused line why) × Appends old new t.text
 Outcome t (NotYet line) old new = (t.stop ≡ AtNotBuilt line) × Appends old new t.text
+Outcome t TooLong old new = (t.stop ≡ AtTooMany) × Appends old new t.text
 Outcome t (Usage word) old new = ⊥
 Outcome t ReadFault old new = AppendsFront old new t.text
 Outcome t WriteFault old new = AppendsFront old new t.text

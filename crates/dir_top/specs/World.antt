@@ -9,7 +9,7 @@ use Rattle.repl_data.specs.Text.{uid_text}
 use Rattle.dir_top.specs.declared.request.Request.{Request}
 use Rattle.dir_top.specs.declared.request.Request.TheVariants.{Bind, Add}
 use Rattle.dir_top.specs.declared.line.Line.{Line}
-use Rattle.dir_top.specs.declared.line.Line.TheVariants.{Nodes, Clock, Connect, Input, Dump}
+use Rattle.dir_top.specs.declared.line.Line.TheVariants.{Clock, Connect, Input, Dump}
 use Rattle.dir_top.specs.declared.world.Connection.{Connection}
 use Rattle.dir_top.specs.declared.world.Connection.TheVariants.{Closed, Anonymous, Manager}
 use Rattle.dir_top.specs.declared.world.Moment.{Moment}
@@ -108,20 +108,14 @@ abbrev pub answer : World → ℕ → Request → World × List ℕ
 answer w c (Bind id) = (with_connection w c Manager, out_line c (reply id 0x61 0 []))
 answer w c (Add id unit) = answer_add c id (add_with w (connection_in w c) unit (draw w.last w.clock))
 
-abbrev pub answer_to : World → ℕ → Option Request → Option (World × List ℕ)
-answer_to w c None = None
-answer_to w c (Some request) = Some (answer w c request)
+abbrev pub answer_to : World → ℕ → Option Request → World × List ℕ
+answer_to w c None = (w, [])
+answer_to w c (Some request) = answer w c request
 
-abbrev pub connected : World → ℕ → Option (World × List ℕ)
-connected w c = if is_open (connection_in w c) then None else Some (with_connection w c Anonymous, [])
-
-abbrev pub fed : World → ℕ → List ℕ → Option (World × List ℕ)
-fed w c bytes = if is_open (connection_in w c) then answer_to w c (request_of bytes) else None
-
--- the world after a line, and what the line prints, if the line may stand there and is built
-abbrev pub carried : World → Line → Option (World × List ℕ)
-carried w (Nodes n) = None
-carried w (Clock time) = Some (record w { clock = time }, [])
-carried w (Connect c n) = connected w c
-carried w (Input c bytes) = fed w c bytes
-carried w (Dump n) = Some (w, dump_text n w)
+-- the world after a line that is built and that nothing refuses, and what the line prints
+abbrev pub carried : World → Line → World × List ℕ
+carried w (Clock time) = (record w { clock = time }, [])
+carried w (Connect c n) = (with_connection w c Anonymous, [])
+carried w (Input c bytes) = answer_to w c (request_of bytes)
+carried w (Dump n) = (w, dump_text n w)
+carried w line = (w, [])

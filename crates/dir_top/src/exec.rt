@@ -1,20 +1,27 @@
-ghost use Rattle.std.specs.Prelude.{◌≡◌, ◌≤◌, ◌++◌, ◌∷◌, [], List, ℕ, Option, OnOk, OnErr, IfOk, IfErr, IfSome, IfNone, MatchResult, string_bytes, map, ◌⊎◌};
+ghost use Rattle.std.specs.Prelude.{◌≡◌, ◌≤◌, ◌<◌, length, ◌++◌, ◌∷◌, [], List, ℕ, Option, OnOk, OnErr, IfOk, IfErr, IfSome, IfNone, MatchResult, string_bytes, map, ◌⊎◌};
 ghost use Rattle.std.specs.Option.{option_map};
 ghost use Rattle.std.specs.Io.KnownBytes.{Appends, IsAtEnd};
 ghost use Rattle.io_edge.specs.Causes.{HasCause, Rose};
 ghost use Rattle.io_edge.specs.Edge.{AppendsFront};
 ghost use Rattle.dir_top.specs.declared.world.World.{World};
+ghost use Rattle.std.specs.Str.Lines.{strip_carriage_return};
+ghost use Rattle.dir_top.specs.Step.{meant};
 ghost use Rattle.dir_top.specs.Line.{line_of};
-ghost use Rattle.dir_top.specs.Output.{GoesOn, NotBuilt, Outcome, Told, before_feed};
-ghost use Rattle.dir_top.specs.Script.{step_of, line_limit, output};
-ghost use Rattle.dir_top.specs.Running.{Stands, Reads, IsFromLine, IsFromRun, wrong_word};
+ghost use Rattle.dir_top.specs.Output.{Outcome, Told, before_feed, content_of};
+ghost use Rattle.dir_top.specs.Script.{step_of, line_limit, length_limit, output};
+ghost use Rattle.dir_top.specs.Running.{Stands, Reads, IsWithin, content_at, IsFromLine, IsFromRun, wrong_word};
 
 use crate::line::read_line;
+use crate::script::{Step, take_line};
 use crate::status::Status;
-use crate::world::{World, carry};
+use crate::why::LineWhy;
+use crate::world::World;
 use io_edge::{Failed, Sink, Source};
 use repl_data::{Bytes, NoMemory};
 use std::alloc::Global;
+
+/// The greatest number of lines of a script.
+const LINE_LIMIT: u32 = 1_000_000;
 
 /// A script that is being read: the world so far, the part of a line that has come, and how many lines came before it.
 #[derive(Debug, Drop)]
@@ -24,19 +31,32 @@ pub(crate) struct Script {
     pub lines: u32,
 }
 
-/// Carries out the line that is written so, if it may stand here and is built, and gives what it prints.
-fn carry_text(
-    alloc: Global,
-    world: &mut Option<World>,
-    text: &[u8],
-) -> Result<Option<Bytes>, NoMemory>
-    ensures carried { IfOk result (λ o. IfSome o (λ printed. step_of world.old (line_of text.now) ≡ GoesOn world.new printed)) }
-    ensures foreign { IfOk result (λ o. IfNone o (step_of world.old (line_of text.now) ≡ NotBuilt)) }
+/// Carries out the line that is written so, or says why the script stops before it.
+fn carry_text(alloc: Global, world: &mut Option<World>, text: &[u8]) -> Result<Step, NoMemory>
+    ensures { IfOk result (λ step. step_of world.old (line_of text.now) ≡ meant step world.new) }
 {
     let Some(line) = read_line(alloc, text)? else {
-        return Ok(None);
+        return Ok(Step::Refuses(LineWhy::Grammar));
     };
-    carry(alloc, world, line)
+    take_line(alloc, world, &line)
+}
+
+/// The content of a line, which a line feed ended or not.
+fn content(line: &[u8], is_ended: bool) -> &[u8]
+    ensures { result.now ≡ content_at is_ended line.now }
+{
+    if is_ended { without_return(line) } else { line }
+}
+
+/// A line without the carriage return at its end.
+fn without_return(line: &[u8]) -> &[u8]
+    ensures { result.now ≡ strip_carriage_return line.now }
+{
+    if line.last() == Some(&b'\r') {
+        &line[..line.len() - 1]
+    } else {
+        line
+    }
 }
 
 /// Writes the piece, if there is any of it.
@@ -53,11 +73,18 @@ fn put<K: Sink>(sink: &mut K, piece: &[u8]) -> Result<(), Failed>
 }
 
 impl Script {
-    /// Carries out the line that has come, and prints its output.
-    fn end_line<K: Sink>(&mut self, alloc: Global, sink: &mut K) -> Result<(), Status>
-        requires { self.old.lines ≤ line_limit }
+    /// Carries out the line that has come, whose content this is, and prints its output.
+    fn end_line<K: Sink>(
+        &mut self,
+        alloc: Global,
+        is_ended: bool,
+        sink: &mut K,
+    ) -> Result<(), Status>
+        requires limit { self.old.lines ≤ line_limit }
+        requires length { length self.old.line ≤ length_limit }
         ensures run { (whole : Told (Option World)) (raw : List ℕ) (after : List (List ℕ)) (old : Option (List ℕ)) →
-            before_feed raw ≡ self.old.line → Stands whole (raw ∷ after) self.old old (K.contents sink.old) →
+            before_feed raw ≡ self.old.line → content_of raw ≡ content_at is_ended self.old.line →
+            Stands whole (raw ∷ after) self.old old (K.contents sink.old) →
             MatchResult result (λ _. Stands whole after self.new old (K.contents sink.new)) (λ status. Outcome whole status old (K.contents sink.new)) }
         ensures emptied { OnOk result (self.new.line ≡ []) }
         ensures limit { OnOk result (self.new.lines ≤ line_limit) }
@@ -65,15 +92,18 @@ impl Script {
         ensures kind { IfErr result IsFromLine }
         ensures cause { IfErr result (λ status. status ≡ Status.WriteFault → Rose (K.faults sink.old) (K.faults sink.new)) }
     {
-        if self.lines == 1_000_000 {
-            return Err(Status::NotYet { line: 1_000_001 });
+        if self.lines == LINE_LIMIT {
+            return Err(Status::TooLong);
         }
         let number = self.lines + 1;
-        let Ok(carried) = carry_text(alloc, &mut self.world, self.line.as_slice()) else {
+        let content = content(self.line.as_slice(), is_ended);
+        let Ok(step) = carry_text(alloc, &mut self.world, content) else {
             return Err(Status::NoMemory);
         };
-        let Some(printed) = carried else {
-            return Err(Status::NotYet { line: number });
+        let printed = match step {
+            Step::GoesOn(printed) => printed,
+            Step::Refuses(why) => return Err(Status::ScriptRefused { line: number, why }),
+            Step::NotBuilt => return Err(Status::NotYet { line: number }),
         };
         let Ok(()) = put(sink, printed.as_slice()) else {
             return Err(Status::WriteFault);
@@ -83,19 +113,40 @@ impl Script {
         Ok(())
     }
 
+    /// What is told of a line that is too long.
+    fn long_line(&self) -> Status
+        requires limit { self.now.lines ≤ line_limit }
+        ensures run { (whole : Told (Option World)) (raw : List ℕ) (after : List (List ℕ)) (old now : Option (List ℕ)) →
+            length_limit < length (before_feed raw) → Stands whole (raw ∷ after) self.now old now → Outcome whole result old now }
+        ensures kind { IsFromLine result }
+        ensures unwritten { result ≡ Status.WriteFault → ⊥ }
+    {
+        if self.lines == LINE_LIMIT {
+            Status::TooLong
+        } else {
+            Status::ScriptRefused {
+                line: self.lines + 1,
+                why: LineWhy::LongLine,
+            }
+        }
+    }
+
     /// Takes the next byte of the script.
     fn take_byte<K: Sink>(&mut self, alloc: Global, byte: u8, sink: &mut K) -> Result<(), Status>
-        requires { self.old.lines ≤ line_limit }
+        requires { IsWithin self.old }
         ensures run { (whole : Told (Option World)) (rest : List ℕ) (old : Option (List ℕ)) →
             Reads whole (byte ∷ rest) self.old old (K.contents sink.old) →
             MatchResult result (λ _. Reads whole rest self.new old (K.contents sink.new)) (λ status. Outcome whole status old (K.contents sink.new)) }
-        ensures limit { OnOk result (self.new.lines ≤ line_limit) }
+        ensures within { OnOk result (IsWithin self.new) }
         ensures later { K.faults sink.old ≤ K.faults sink.new }
         ensures cause { IfErr result (λ status. status ≡ Status.WriteFault → Rose (K.faults sink.old) (K.faults sink.new)) }
         ensures kind { IfErr result IsFromLine }
     {
         if byte == b'\n' {
-            return self.end_line(alloc, sink);
+            return self.end_line(alloc, true, sink);
+        }
+        if self.line.len() == 4_194_400 {
+            return Err(self.long_line());
         }
         let Ok(()) = self.line.push(byte) else {
             return Err(Status::NoMemory);
@@ -110,11 +161,11 @@ impl Script {
         piece: &[u8],
         sink: &mut K,
     ) -> Result<(), Status>
-        requires { self.old.lines ≤ line_limit }
+        requires { IsWithin self.old }
         ensures run { (whole : Told (Option World)) (rest : List ℕ) (old : Option (List ℕ)) →
             Reads whole (piece.now ++ rest) self.old old (K.contents sink.old) →
             MatchResult result (λ _. Reads whole rest self.new old (K.contents sink.new)) (λ status. Outcome whole status old (K.contents sink.new)) }
-        ensures limit { OnOk result (self.new.lines ≤ line_limit) }
+        ensures within { OnOk result (IsWithin self.new) }
         ensures later { K.faults sink.old ≤ K.faults sink.new }
         ensures cause { IfErr result (λ status. status ≡ Status.WriteFault → Rose (K.faults sink.old) (K.faults sink.new)) }
         ensures kind { IfErr result IsFromLine }
@@ -129,7 +180,7 @@ impl Script {
 
     /// Takes the end of the script. A last line without LF counts.
     fn finish<K: Sink>(&mut self, alloc: Global, sink: &mut K) -> Status
-        requires { self.old.lines ≤ line_limit }
+        requires { IsWithin self.old }
         ensures run { (whole : Told (Option World)) (old : Option (List ℕ)) →
             Reads whole [] self.old old (K.contents sink.old) → Outcome whole result old (K.contents sink.new) }
         ensures later { K.faults sink.old ≤ K.faults sink.new }
@@ -140,7 +191,7 @@ impl Script {
         if self.line.is_empty() {
             return Status::Done;
         }
-        match self.end_line(alloc, sink) {
+        match self.end_line(alloc, false, sink) {
             Ok(()) => Status::Done,
             Err(status) => status,
         }

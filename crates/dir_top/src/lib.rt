@@ -5,11 +5,14 @@ mod exec;
 mod line;
 mod print;
 mod request;
+mod script;
 mod status;
 #[cfg(test)]
 mod tests;
+mod why;
 mod words;
 mod world;
 
 pub use exec::exec_main;
 pub use status::Status;
+pub use why::LineWhy;

@@ -1,7 +1,8 @@
-ghost use Rattle.std.specs.Prelude.{◌≡◌, IfOk};
-ghost use Rattle.dir_top.specs.Status.{number_of, text_of};
+ghost use Rattle.std.specs.Prelude.{◌≡◌, ◌++◌, IfOk};
+ghost use Rattle.dir_top.specs.Status.{number_of, line_text, text_of};
 
 use crate::print::put_number;
+use crate::why::LineWhy;
 use repl_data::{Bytes, NoMemory};
 use std::alloc::Global;
 
@@ -12,6 +13,10 @@ pub enum Status {
     Done,
     /// The words of the command line are wrong. This is the first that is, or nothing where one is missing.
     Usage { word: Bytes },
+    /// The line of this number, counted from 1, is refused. The output of the lines before it was written.
+    ScriptRefused { line: u32, why: LineWhy },
+    /// More than 1,000,000 lines came. The output of the first 1,000,000 was written.
+    TooLong,
     /// The source failed. A front of the output was written.
     ReadFault,
     /// The sink failed. A front of the output was written.
@@ -30,6 +35,8 @@ impl Status {
         match self {
             Status::Done => 0,
             Status::Usage { .. } => 2,
+            Status::ScriptRefused { .. } => 3,
+            Status::TooLong => 4,
             Status::ReadFault => 5,
             Status::WriteFault => 6,
             Status::NoMemory => 7,
@@ -41,22 +48,38 @@ impl Status {
     pub fn text(&self, alloc: Global) -> Result<Bytes, NoMemory>
         ensures { IfOk result (λ text. text ≡ text_of self.now) }
     {
-        let mut text = Bytes::new(alloc);
         match self {
-            Status::Done => {}
-            Status::Usage { word } => {
-                text.extend_from_slice(b"usage: ")?;
-                text.extend_from_slice(word.as_slice())?;
+            Status::Done => Ok(Bytes::new(alloc)),
+            Status::Usage { word } => joined(alloc, b"usage: ", word.as_slice()),
+            Status::ScriptRefused { line, why } => {
+                let why = why.text(alloc)?;
+                line_text(alloc, *line, why.as_slice())
             }
-            Status::ReadFault => text.extend_from_slice(b"read failed")?,
-            Status::WriteFault => text.extend_from_slice(b"write failed")?,
-            Status::NoMemory => text.extend_from_slice(b"no memory")?,
-            Status::NotYet { line } => {
-                text.extend_from_slice(b"line ")?;
-                put_number(alloc, &mut text, u64::from(*line))?;
-                text.extend_from_slice(b": not yet")?;
-            }
+            Status::TooLong => Bytes::from_slice(alloc, b"too many lines"),
+            Status::ReadFault => Bytes::from_slice(alloc, b"read failed"),
+            Status::WriteFault => Bytes::from_slice(alloc, b"write failed"),
+            Status::NoMemory => Bytes::from_slice(alloc, b"no memory"),
+            Status::NotYet { line } => line_text(alloc, *line, b"not yet"),
         }
-        Ok(text)
     }
+}
+
+fn joined(alloc: Global, front: &[u8], back: &[u8]) -> Result<Bytes, NoMemory>
+    ensures { IfOk result (λ text. text ≡ front.now ++ back.now) }
+{
+    let mut text = Bytes::from_slice(alloc, front)?;
+    text.extend_from_slice(back)?;
+    Ok(text)
+}
+
+/// What is told of the line of this number.
+#[tactic(auto, unfolding(crate::specs::Status::line_text))]
+fn line_text(alloc: Global, line: u32, what: &[u8]) -> Result<Bytes, NoMemory>
+    ensures { IfOk result (λ text. text ≡ line_text line what.now) }
+{
+    let mut text = Bytes::from_slice(alloc, b"line ")?;
+    put_number(alloc, &mut text, u64::from(line))?;
+    text.extend_from_slice(b": ")?;
+    text.extend_from_slice(what)?;
+    Ok(text)
 }

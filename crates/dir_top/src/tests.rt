@@ -75,50 +75,188 @@ fn a_last_line_without_a_line_feed_counts(rt: HostRuntime) -> Result<(), Fail> {
     expect(&rt, b"nodes 1", 1, 0, b"", b"")
 }
 
-#[test]
-fn what_is_not_built_is_told_with_its_line(rt: HostRuntime) -> Result<(), Fail> {
-    let bind = b"out 1 300c02010161070a010004000400\n".as_slice();
-    let table = [
-        (
-            b"nodes 1\nvector 1\n".as_slice(),
-            b"line 2: not yet".as_slice(),
-            b"".as_slice(),
-        ),
-        (b"nodes 1\nvector 01\n", b"line 2: not yet", b""),
-        (b"nodes 2\n", b"line 1: not yet", b""),
-        (b"nodes 01\n", b"line 1: not yet", b""),
-        (b"clock 1\n", b"line 1: not yet", b""),
-        (b"nodes 1\r\n", b"line 1: not yet", b""),
-        (b"# a comment\n", b"line 1: not yet", b""),
-        (b"nodes 1\n\nclock 1\n", b"line 2: not yet", b""),
-        (b"nodes 1\nnodes 1\n", b"line 2: not yet", b""),
-        (
-            b"nodes 1\nclock 4294967295\nclock 4294967296\n",
-            b"line 3: not yet",
-            b"",
-        ),
-        (b"nodes 1\nclock 1 \n", b"line 2: not yet", b""),
-        (b"nodes 1\nclock  1\n", b"line 2: not yet", b""),
-        (b"nodes 1\nopen 64 1\nopen 65 1\n", b"line 3: not yet", b""),
-        (b"nodes 1\nopen 1 1\nopen 1 1\n", b"line 3: not yet", b""),
-        (b"nodes 1\nin 1 00\n", b"line 2: not yet", b""),
-        (b"nodes 1\nopen 1 1\nin 1 0\n", b"line 3: not yet", b""),
-        (b"nodes 1\nopen 1 1\nin 1 30\n", b"line 3: not yet", b""),
-        (
-            b"nodes 1\nopen 1 1\nin 1 301C0201016017020103040A636E3D6D616E616765728006736563726574\ndump 2\n",
-            b"line 4: not yet",
-            bind,
-        ),
-        (
-            b"nodes 1\nopen 1 1\nin 1 301c0201016017020103040a636e3d6d616e616765728006736563726574\nin 1 301c0201806017020103040a636e3d6d616e616765728006736563726574\n",
-            b"line 4: not yet",
-            bind,
-        ),
-    ];
-    for (script, text, output) in table {
-        expect(&rt, script, 5, 8, text, output)?;
+/// Compares the status and its text at each script that prints nothing.
+fn expect_each<R: Abort + AllocGlobal>(
+    rt: &R,
+    number: u8,
+    table: &[(&[u8], &[u8])],
+) -> Result<(), Fail> {
+    for (script, text) in table {
+        expect(rt, script, 5, number, text, b"")?;
     }
     Ok(())
+}
+
+#[test]
+fn what_is_not_built_is_told_with_its_line(rt: HostRuntime) -> Result<(), Fail> {
+    let table: [(&[u8], &[u8]); 19] = [
+        (b"nodes 2\n", b"line 1: not yet"),
+        (b"nodes 8\n", b"line 1: not yet"),
+        (b"nodes 1\nvector 1\n", b"line 2: not yet"),
+        (b"nodes 1\nrestart 1\n", b"line 2: not yet"),
+        (b"restart 8\n", b"line 1: not yet"),
+        (b"nodes 1\naudit 8", b"line 2: not yet"),
+        (b"nodes 1\nfail 1 1000000\n", b"line 2: not yet"),
+        (b"nodes 1\nstart 1000000 64 00\n", b"line 2: not yet"),
+        (b"nodes 1\ncommit 1\n", b"line 2: not yet"),
+        (b"nodes 1\nsettle 1000000\n", b"line 2: not yet"),
+        (b"nodes 1\nabort 1\n", b"line 2: not yet"),
+        (b"nodes 1\nacquire 1 8\n", b"line 2: not yet"),
+        (b"nodes 1\nrelease 8 1\n", b"line 2: not yet"),
+        (b"nodes 1\noffer 1 2\n", b"line 2: not yet"),
+        (b"nodes 1\npump 1 2\n", b"line 2: not yet"),
+        (b"nodes 1\ndeliver 8 0\n", b"line 2: not yet"),
+        (
+            b"nodes 1\ndeliver 1 18446744073709551615\n",
+            b"line 2: not yet",
+        ),
+        (b"nodes 1\nopen 1 1\nin 1 30\n", b"line 3: not yet"),
+        (
+            b"nodes 1\nopen 1 1\nin 1 301c0201806017020103040a636e3d6d616e616765728006736563726574\n",
+            b"line 3: not yet",
+        ),
+    ];
+    expect_each(&rt, 8, table.as_slice())
+}
+
+#[test]
+fn what_is_outside_the_grammar_is_refused(rt: HostRuntime) -> Result<(), Fail> {
+    let refused = b"line 2: outside the grammar".as_slice();
+    let lines: [&[u8]; 38] = [
+        b"nodes",
+        b"nodes 0",
+        b"nodes 9",
+        b"nodes 01",
+        b"nodes 1 1",
+        b"nodes 1 ",
+        b"nodes  1",
+        b" nodes 1",
+        b"Nodes 1",
+        b"clock",
+        b"clock 4294967296",
+        b"clock -1",
+        b"clock +1",
+        b"clock 00",
+        b"open 0 1",
+        b"open 65 1",
+        b"open 1",
+        b"open 1 9",
+        b"in 1",
+        b"in 1 0",
+        b"in 1 0g",
+        b"in 65 00",
+        b"in 1  00",
+        b"start 0 1 00",
+        b"start 1000001 1 00",
+        b"start 1 1",
+        b"commit 0",
+        b"commit 1000001",
+        b"settle 01",
+        b"abort",
+        b"acquire 1",
+        b"offer 1 0",
+        b"deliver 1",
+        b"deliver 1 18446744073709551616",
+        b"fail 1 0",
+        b"fail 1 1000001",
+        b"restart 01",
+        b"help",
+    ];
+    for line in lines {
+        let mut script = Vec::from_slice(rt.alloc(), b"nodes 1\n")?;
+        script.extend_from_slice(line)?;
+        expect(&rt, script.as_slice(), 3, 3, refused, b"")?;
+        script.extend_from_slice(b"\nclock 1\n")?;
+        expect(&rt, script.as_slice(), 4096, 3, refused, b"")?;
+    }
+    expect_each(&rt, 3, &[(b"nodes 9\n", b"line 1: outside the grammar")])
+}
+
+#[test]
+fn the_first_reason_that_fits_is_told(rt: HostRuntime) -> Result<(), Fail> {
+    let table: [(&[u8], &[u8]); 18] = [
+        (b"clock 1\n", b"line 1: nodes must come first and once"),
+        (b"open 1 1\n", b"line 1: nodes must come first and once"),
+        (b"in 1 00\n", b"line 1: nodes must come first and once"),
+        (b"dump 1\n", b"line 1: nodes must come first and once"),
+        (
+            b"nodes 1\nnodes 1\n",
+            b"line 2: nodes must come first and once",
+        ),
+        (
+            b"\n# a comment\n\r\nnodes 1\n\nnodes 1\n",
+            b"line 6: nodes must come first and once",
+        ),
+        (b"nodes 1\nopen 1 2\n", b"line 2: no node 2"),
+        (b"nodes 1\ndump 8\n", b"line 2: no node 8"),
+        (b"nodes 1\nin 64 00\n", b"line 2: no connection 64"),
+        (
+            b"nodes 1\nopen 64 1\nin 64 0\n",
+            b"line 3: outside the grammar",
+        ),
+        (
+            b"nodes 1\nopen 1 1\nopen 1 1\n",
+            b"line 3: connection 1 is taken",
+        ),
+        (
+            b"nodes 1\nopen 1 1\nopen 1 2\n",
+            b"line 3: connection 1 is taken",
+        ),
+        (b"open 1 9\n", b"line 1: outside the grammar"),
+        (b"clock 01\n", b"line 1: outside the grammar"),
+        (b"dump 2\n", b"line 1: nodes must come first and once"),
+        (b"nodes 1\nopen 65 9\n", b"line 2: outside the grammar"),
+        (b"nodes 1\nclock 1\r", b"line 2: outside the grammar"),
+        (
+            b"nodes 1\nclock 1\r\r\nclock 2\n",
+            b"line 2: outside the grammar",
+        ),
+    ];
+    expect_each(&rt, 3, table.as_slice())
+}
+
+#[test]
+fn comments_empty_lines_and_carriage_returns(rt: HostRuntime) -> Result<(), Fail> {
+    let table: [(&[u8], &[u8]); 7] = [
+        (b"\n\n", b""),
+        (b"# nodes 9", b""),
+        (b"#\n\r\n#\r\n", b""),
+        (b"nodes 1\r\nclock 4294967295\r\nopen 64 1\r\n", b""),
+        (b"nodes 1\nclock 0\nopen 1 1", b""),
+        (b"#\r", b""),
+        (b"# a comment before\nnodes 1\n#in 1 00\n", b""),
+    ];
+    expect_each(&rt, 0, table.as_slice())
+}
+
+#[test]
+fn a_refused_script_leaves_the_output_of_the_lines_before(rt: HostRuntime) -> Result<(), Fail> {
+    let script =
+        b"nodes 1\nopen 1 1\nin 1 301C0201016017020103040A636E3D6D616E616765728006736563726574\ndump 2\ndump 1\n";
+    expect(
+        &rt,
+        script,
+        9,
+        3,
+        b"line 4: no node 2",
+        b"out 1 300c02010161070a010004000400\n",
+    )
+}
+
+#[test]
+fn the_greatest_line(rt: HostRuntime) -> Result<(), Fail> {
+    let mut script = Vec::from_slice(rt.alloc(), b"#")?;
+    for _ in 0..4_194_399u32 {
+        script.push(b'0')?;
+    }
+    expect(&rt, script.as_slice(), 4096, 0, b"", b"")?;
+    script.extend_from_slice(b"\nnodes 1\n")?;
+    expect(&rt, script.as_slice(), 4096, 0, b"", b"")?;
+    script.truncate(4_194_400);
+    script.push(b'0')?;
+    expect(&rt, script.as_slice(), 4096, 3, b"line 1: too long", b"")?;
+    script.push(b'\n')?;
+    expect(&rt, script.as_slice(), 4096, 3, b"line 1: too long", b"")
 }
 
 #[test]
@@ -167,21 +305,17 @@ fn the_space_of_csns_has_an_end(rt: HostRuntime) -> Result<(), Fail> {
 }
 
 #[test]
-fn line_one_million_and_one_is_not_built(rt: HostRuntime) -> Result<(), Fail> {
+fn more_than_a_million_lines_are_too_many(rt: HostRuntime) -> Result<(), Fail> {
     let mut script = Vec::from_slice(rt.alloc(), b"nodes 1\n")?;
     for _ in 0..999_999u32 {
-        script.extend_from_slice(b"clock 0\n")?;
+        script.push(b'\n')?;
     }
     expect(&rt, script.as_slice(), 4096, 0, b"", b"")?;
-    script.extend_from_slice(b"clock 0\n")?;
-    expect(
-        &rt,
-        script.as_slice(),
-        4096,
-        8,
-        b"line 1000001: not yet",
-        b"",
-    )
+    script.push(b'\n')?;
+    expect(&rt, script.as_slice(), 4096, 4, b"too many lines", b"")?;
+    script.truncate(1_000_007);
+    script.push(b'#')?;
+    expect(&rt, script.as_slice(), 4096, 4, b"too many lines", b"")
 }
 
 #[test]

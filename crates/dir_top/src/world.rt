@@ -1,14 +1,11 @@
-ghost use Rattle.std.specs.Prelude.{◌≡◌, ◌≤◌, length, insert, IfOk, IfSome, IfNone, None, option_map};
+ghost use Rattle.std.specs.Prelude.{◌≡◌, ◌≤◌, length, insert, IfOk};
 ghost use Rattle.repl_data.specs.Order.{bytes_cmp};
 ghost use Rattle.std.specs.Ordering.{is_lt};
-ghost use Rattle.dir_top.specs.Output.{GoesOn, NotBuilt};
-ghost use Rattle.dir_top.specs.Script.{line_step};
-ghost use Rattle.dir_top.specs.World.{new_world, connection_in, with_connection, is_open, draw, has_unit, put, add_drawn, add_with, add_text, out_line, dump_text, answer, connected, fed, carried};
+ghost use Rattle.dir_top.specs.World.{new_world, connection_in, with_connection, is_open, draw, has_unit, put, add_drawn, add_with, add_text, out_line, dump_text, answer};
 ghost use Rattle.dir_top.specs.Request.{reply};
 
-use crate::line::Line;
 use crate::print::{put_dump_head, put_entry, put_out, put_suffix};
-use crate::request::{Request, read_request, reply};
+use crate::request::{Request, reply};
 use repl_data::{Bytes, Csn, Items, NoMemory};
 use std::alloc::Global;
 
@@ -71,7 +68,7 @@ impl Moment {
 }
 
 impl Connection {
-    fn is_open(self) -> bool
+    pub(crate) fn is_open(self) -> bool
         ensures { result ≡ is_open self }
     {
         self != Connection::Closed
@@ -116,7 +113,7 @@ fn add_text(code: u8) -> &'static [u8]
 
 impl World {
     /// Nothing is open, and the suffix has no entry below it.
-    fn new(alloc: Global) -> World
+    pub(crate) fn new(alloc: Global) -> World
         ensures { result ≡ new_world }
     {
         World {
@@ -127,7 +124,7 @@ impl World {
         }
     }
 
-    fn connection(&self, c: u16) -> Connection
+    pub(crate) fn connection(&self, c: u16) -> Connection
         ensures { result ≡ connection_in self.now c }
     {
         let place = usize::from(c.saturating_sub(1));
@@ -137,7 +134,7 @@ impl World {
             .unwrap_or(Connection::Closed)
     }
 
-    fn set_connection(&mut self, c: u16, connection: Connection)
+    pub(crate) fn set_connection(&mut self, c: u16, connection: Connection)
         ensures { self.new ≡ with_connection self.old c connection }
     {
         let place = usize::from(c.saturating_sub(1));
@@ -182,7 +179,12 @@ impl World {
 
 impl World {
     /// Answers a request on an open connection, and gives what the line prints.
-    fn answer(&mut self, alloc: Global, c: u16, request: Request) -> Result<Bytes, NoMemory>
+    pub(crate) fn answer(
+        &mut self,
+        alloc: Global,
+        c: u16,
+        request: Request,
+    ) -> Result<Bytes, NoMemory>
         ensures { IfOk result (λ text. (self.new, text) ≡ answer self.old c request) }
     {
         match request {
@@ -198,30 +200,8 @@ impl World {
         }
     }
 
-    fn input(&mut self, alloc: Global, c: u16, bytes: &[u8]) -> Result<Option<Bytes>, NoMemory>
-        ensures { IfOk result (λ o. option_map (λ text. (self.new, text)) o ≡ fed self.old c bytes.now) }
-    {
-        if !self.connection(c).is_open() {
-            return Ok(None);
-        }
-        let Some(request) = read_request(alloc, bytes)? else {
-            return Ok(None);
-        };
-        Ok(Some(self.answer(alloc, c, request)?))
-    }
-
-    fn connect(&mut self, alloc: Global, c: u16) -> Option<Bytes>
-        ensures { option_map (λ text. (self.new, text)) result ≡ connected self.old c }
-    {
-        if self.connection(c).is_open() {
-            return None;
-        }
-        self.set_connection(c, Connection::Anonymous);
-        Some(Bytes::new(alloc))
-    }
-
     /// The listing of the entries.
-    fn dump(&self, alloc: Global, n: u16) -> Result<Bytes, NoMemory>
+    pub(crate) fn dump(&self, alloc: Global, n: u16) -> Result<Bytes, NoMemory>
         ensures { IfOk result (λ text. text ≡ dump_text n self.now) }
     {
         let below = self.added.len() as u64;
@@ -233,22 +213,6 @@ impl World {
         }
         Ok(text)
     }
-
-    /// Carries out a line, and gives what it prints, if it may stand here and is built.
-    fn carry(&mut self, alloc: Global, line: Line) -> Result<Option<Bytes>, NoMemory>
-        ensures { IfOk result (λ o. option_map (λ text. (self.new, text)) o ≡ carried self.old line) }
-    {
-        match line {
-            Line::Nodes { .. } => Ok(None),
-            Line::Clock { time } => {
-                self.clock = time;
-                Ok(Some(Bytes::new(alloc)))
-            }
-            Line::Connect { c, .. } => Ok(self.connect(alloc, c)),
-            Line::Input { c, bytes } => self.input(alloc, c, bytes.as_slice()),
-            Line::Dump { n } => Ok(Some(self.dump(alloc, n)?)),
-        }
-    }
 }
 
 /// The reply with the text of its code, as a line.
@@ -259,33 +223,4 @@ fn out_line(alloc: Global, c: u16, id: u8, tag: u8, code: u8) -> Result<Bytes, N
     let mut text = Bytes::new(alloc);
     put_out(alloc, &mut text, c, reply.as_slice())?;
     Ok(text)
-}
-
-/// Carries out a line of the script, and gives what it prints, if it may stand here and is built.
-pub(crate) fn carry(
-    alloc: Global,
-    world: &mut Option<World>,
-    line: Line,
-) -> Result<Option<Bytes>, NoMemory>
-    ensures carried { IfOk result (λ o. IfSome o (λ text. line_step world.old line ≡ GoesOn world.new text)) }
-    ensures foreign { IfOk result (λ o. IfNone o (line_step world.old line ≡ NotBuilt)) }
-{
-    match world {
-        Some(world) => world.carry(alloc, line),
-        None => begin(alloc, world, line),
-    }
-}
-
-fn begin(alloc: Global, world: &mut Option<World>, line: Line) -> Result<Option<Bytes>, NoMemory>
-    requires { world.old ≡ None }
-    ensures carried { IfOk result (λ o. IfSome o (λ text. line_step world.old line ≡ GoesOn world.new text)) }
-    ensures foreign { IfOk result (λ o. IfNone o (line_step world.old line ≡ NotBuilt)) }
-{
-    match line {
-        Line::Nodes { .. } => {
-            *world = Some(World::new(alloc));
-            Ok(Some(Bytes::new(alloc)))
-        }
-        _ => Ok(None),
-    }
 }

@@ -3,10 +3,9 @@
 
 use dir_top::{Status, exec_main};
 use io_edge::{StdSink, StdSource};
-use std::env;
-use std::io;
 use std::io::Write;
 use std::process::ExitCode;
+use std::{env, io};
 
 /// The words of the command line without the program's own name.
 fn words(rt: &HostRuntime) -> io::Result<Vec<String>> {

@@ -8,7 +8,7 @@ returns-in-Err-clause-run g c = λ whole rest old reads.
 
 pub loop-byte-preserved : goal.loop-byte-preserved
 loop-byte-preserved g c = (
-  c.in_default.ensures.limit,
+  c.in_default.ensures.within,
   omega (arith, c.loop-byte.invariant.1, c.take_byte.ensures.later),
   λ whole rest old reads.
       c.in_default.ensures.run whole (drop (c.loop-byte.byte-index + 1) c.args.piece.now ++ rest) old (reads_at whole c.args.piece.now c.loop-byte.byte-index rest c.loop-byte.self old _ c.loop-byte-test.true (c.loop-byte.invariant.2 whole rest old reads)),
