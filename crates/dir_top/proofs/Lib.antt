@@ -2,4 +2,3 @@ pub mod Numbers
 pub mod Places
 pub mod Reaching
 pub mod Runs
-pub mod Texts

@@ -1,5 +1,5 @@
 -- How a run goes on by one line, and how a script falls into lines.
-use Rattle.std.proofs.Common.{◌≡◌, ◌≢◌, ℕ, ◌+◌, ◌<◌, ◌≤◌, Bool, true, false, List, [], ◌∷◌, ◌++◌, drop, get_or, length, Option, None, Some, Result, Ok, Err, inl, inr, refl, sym, ap, subst, ◌∙◌, append_assoc, length-append, add-one, arith, le-ltb, lt-ltb}
+use Rattle.std.proofs.Common.{◌≡◌, ◌≢◌, ℕ, ◌+◌, ◌<◌, ◌≤◌, Bool, true, false, List, [], ◌∷◌, ◌++◌, drop, get_or, length, Option, Result, Ok, Err, inl, inr, refl, sym, ap, subst, ◌∙◌, append_assoc, length-append, add-one, arith, le-ltb, lt-ltb}
 use Rattle.std.specs.Prelude.{◌==◌, ◌||◌, if◌then◌else◌, MatchResult, OnOk}
 use Rattle.std.specs.List.{list_any}
 use Rattle.std.specs.Io.KnownBytes.{Appends}
@@ -12,7 +12,7 @@ use Rattle.dir_top.specs.declared.world.World.{World}
 use Rattle.dir_top.specs.declared.exec.Script.{Script}
 use Rattle.dir_top.specs.declared.status.Status.{Status}
 use Rattle.dir_top.specs.declared.status.Status.TheVariants as status
-use Rattle.dir_top.specs.Output.{LineStep, GoesOn, Refuses, NotBuilt, TooMany, Told, Stop, AtEnd, AtRefused, AtNotBuilt, AtTooMany, told, after_text, onto_first, lines_of, before_feed, content_of, Outcome}
+use Rattle.dir_top.specs.Output.{LineStep, GoesOn, Refuses, NotBuilt, TooMany, Told, Stop, AtRefused, AtNotBuilt, AtTooMany, told, after_text, onto_first, lines_of, before_feed, content_of, Outcome}
 use Rattle.std.specs.Str.Lines.{strip_carriage_return}
 use Rattle.dir_top.specs.declared.why.LineWhy.{LineWhy}
 use Rattle.dir_top.specs.declared.why.LineWhy.TheVariants.{LongLine}

@@ -1,5 +1,6 @@
 pub mod Line
 pub mod Output
+pub mod Print
 pub mod Request
 pub mod Running
 pub mod Script

@@ -1,5 +1,5 @@
 -- What a script means: its lines, one after the other, on one node.
-use Rattle.std.specs.Prelude.{ℕ, Bool, true, false, not, ◌||◌, ◌==◌, List, [], ◌∷◌, ◌++◌, map, length, nat_lt, if◌then◌else◌, Option, Some, None, is_some, is_none}
+use Rattle.std.specs.Prelude.{ℕ, Bool, true, false, not, ◌||◌, ◌==◌, List, [], ◌∷◌, map, length, nat_lt, if◌then◌else◌, Option, Some, None, is_some, is_none}
 use Rattle.dir_top.specs.declared.line.Line.{Line}
 use Rattle.dir_top.specs.declared.line.Line.TheVariants.{Nothing, Nodes, Clock, Connect, Input, Dump}
 use Rattle.dir_top.specs.declared.why.LineWhy.{LineWhy}

@@ -1,10 +1,15 @@
 -- One node, its clock and its connections, and what a line does to them.
-use Rattle.std.specs.Prelude.{ℕ, ◌+◌, ◌-◌, Bool, true, false, ◌==◌, List, [], ◌∷◌, ◌++◌, codes, length, replicate, slice_index_or, slice_set, nat_lt, if◌then◌else◌, Option, Some, None, bytes_eq}
+use Rattle.std.specs.Prelude.{ℕ, ◌+◌, ◌-◌, Bool, true, false, ◌==◌, List, [], ◌∷◌, ◌++◌, map, codes, length, replicate, slice_index_or, slice_set, nat_lt, if◌then◌else◌, Option, Some, None, bytes_eq}
 use Rattle.std.specs.List.{list_any, flat_map}
 use Rattle.std.specs.Ordering.{is_lt}
 use Rattle.std.specs.Fmt.{decimal}
 use Rattle.hex.specs.Hex.{encode_lower}
-use Rattle.repl_data.specs.Order.{bytes_cmp}
+use Rattle.repl_data.specs.declared.csn.Csn.{Csn}
+use Rattle.repl_data.specs.declared.change.Val.{Val}
+use Rattle.repl_data.specs.declared.change.Shown.{Shown}
+use Rattle.repl_data.specs.declared.change.ShownEntry.{ShownEntry}
+use Rattle.repl_data.specs.Order.{bytes_cmp, zero_csn, suffix_id}
+use Rattle.dir_top.specs.Print.{words_line, entry_lines}
 use Rattle.repl_data.specs.Text.{uid_text}
 use Rattle.dir_top.specs.declared.request.Request.{Request}
 use Rattle.dir_top.specs.declared.request.Request.TheVariants.{Bind, Add}
@@ -73,30 +78,46 @@ add_text code = if code == 53 then codes "csn space used up" else []
 -- ---- what is printed
 
 -- `out C HEX`
-unfoldable pub out_line : ℕ → List ℕ → List ℕ
-out_line c bytes = codes "out " ++ decimal c ++ codes " " ++ encode_lower bytes ++ codes "\n"
+abbrev pub out_line : ℕ → List ℕ → List ℕ
+out_line c bytes = words_line (codes "out" ∷ decimal c ∷ encode_lower bytes ∷ [])
+
+-- a text that is its own key
+abbrev pub own_key : List ℕ → Val
+own_key text = record { key = text; spelled = text }
+
+abbrev pub shown_of : List ℕ → List (List ℕ) → Bool → Shown
+shown_of name texts operational = record { attr = record { name = name }; vals = map own_key texts; operational = operational }
+
+-- the attributes stand in order of name
+abbrev pub id_of_entry : Csn → Shown
+id_of_entry csn = shown_of (codes "nsuniqueid") (uid_text (record { csn = csn }) ∷ []) true
 
 -- the entry of the suffix
-unfoldable pub suffix_text : List ℕ
-suffix_text = codes "dn: dc=example\n dc: example\n nsuniqueid: 00000000-00000000-00000000-00000000\n objectclass: domain\n objectclass: top\n"
+unfoldable pub suffix_entry : ShownEntry
+suffix_entry = record {
+  id = suffix_id;
+  dn = codes "dc=example";
+  attrs = shown_of (codes "dc") (codes "example" ∷ []) false ∷ id_of_entry zero_csn ∷ shown_of (codes "objectclass") (codes "domain" ∷ codes "top" ∷ []) false ∷ [];
+}
 
-unfoldable pub name_text : List ℕ → List ℕ
-name_text unit = codes "dn: ou=" ++ unit ++ codes ",dc=example\n"
-
--- the values of an entry, in order of attribute
-unfoldable pub values_text : List ℕ → List ℕ → List ℕ
-values_text id unit = codes " nsuniqueid: " ++ id ++ codes "\n objectclass: top\n ou: " ++ unit ++ codes "\n"
-
-abbrev pub entry_text : Added → List ℕ
-entry_text a = name_text a.unit ++ values_text (uid_text (record { csn = a.csn })) a.unit
+-- the entry of an organizational unit
+unfoldable pub unit_entry : Added → ShownEntry
+unit_entry a = record {
+  id = record { csn = a.csn };
+  dn = codes "ou=" ++ a.unit ++ codes ",dc=example";
+  attrs = id_of_entry a.csn ∷ shown_of (codes "objectclass") (codes "top" ∷ []) false ∷ shown_of (codes "ou") (a.unit ∷ []) false ∷ [];
+}
 
 -- `dump N COUNT`
-unfoldable pub dump_head : ℕ → ℕ → List ℕ
-dump_head n count = codes "dump " ++ decimal n ++ codes " " ++ decimal count ++ codes "\n"
+abbrev pub dump_head : ℕ → ℕ → List ℕ
+dump_head n count = words_line (codes "dump" ∷ decimal n ∷ decimal count ∷ [])
+
+abbrev pub entry_text : Added → List ℕ
+entry_text a = entry_lines (unit_entry a)
 
 -- the listing: the suffix, and the entries below it in order of name
 abbrev pub dump_text : ℕ → World → List ℕ
-dump_text n w = dump_head n (length w.added + 1) ++ suffix_text ++ flat_map entry_text w.added
+dump_text n w = dump_head n (length w.added + 1) ++ entry_lines suffix_entry ++ flat_map entry_text w.added
 
 -- ---- one line
 

@@ -1,85 +1,135 @@
-ghost use Rattle.std.specs.Prelude.{◌≡◌, ◌++◌, OnOk};
+ghost use Rattle.std.specs.Prelude.{◌≡◌, ◌++◌, OnOk, IfOk};
+ghost use Rattle.std.specs.List.{list_all, join_with_byte};
 ghost use Rattle.std.specs.Fmt.{decimal};
-ghost use Rattle.dir_top.specs.World.{out_line, dump_head, suffix_text, name_text, values_text, entry_text};
+ghost use Rattle.hex.specs.Hex.{encode_lower};
+ghost use Rattle.dir_top.specs.Print.{words_line, is_printable, is_plain, plain_line, hexadecimal_line, value_line, attr_lines, dn_line, entry_lines};
 
-use crate::world::Added;
-use repl_data::{Bytes, NoMemory, Uid};
+use repl_data::{Bytes, NoMemory, Shown, ShownEntry, Val};
 use std::alloc::Global;
 
-/// Appends the number in decimal.
-pub(crate) fn put_number(alloc: Global, out: &mut Bytes, number: u64) -> Result<(), NoMemory>
-    ensures { OnOk result (out.new ≡ out.old ++ decimal number) }
+/// The number in decimal.
+pub(crate) fn number_word(alloc: Global, number: u64) -> Result<Bytes, NoMemory>
+    ensures { IfOk result (λ word. word ≡ decimal number) }
 {
     let text = format!(in alloc; "{number}")?;
-    out.extend_from_slice(text.as_bytes())
+    Bytes::from_slice(alloc, text.as_bytes())
 }
 
-/// Appends the line `out C HEX`.
-#[tactic(auto, unfolding(crate::specs::World::out_line))]
-pub(crate) fn put_out(alloc: Global, out: &mut Bytes, c: u16, reply: &[u8]) -> Result<(), NoMemory>
-    ensures { OnOk result (out.new ≡ out.old ++ out_line c reply.now) }
+/// The bytes in hexadecimal, in lower case.
+pub(crate) fn hexadecimal_word(alloc: Global, bytes: &[u8]) -> Result<Bytes, NoMemory>
+    ensures { IfOk result (λ word. word ≡ encode_lower bytes.now) }
 {
-    out.extend_from_slice(b"out ")?;
-    put_number(alloc, out, u64::from(c))?;
-    out.extend_from_slice(b" ")?;
-    let digits = hex::encode(alloc, reply)?;
-    out.extend_from_slice(digits.as_bytes())?;
-    out.extend_from_slice(b"\n")
+    let text = hex::encode(alloc, bytes)?;
+    Bytes::from_slice(alloc, text.as_bytes())
 }
 
-/// Appends the line `dump N COUNT`.
-#[tactic(auto, unfolding(crate::specs::World::dump_head))]
-pub(crate) fn put_dump_head(
-    alloc: Global,
-    out: &mut Bytes,
-    n: u16,
-    count: u64,
-) -> Result<(), NoMemory>
-    ensures { OnOk result (out.new ≡ out.old ++ dump_head n count) }
+/// Appends the words, with a space between each two.
+fn put_words(out: &mut Bytes, words: &[Bytes]) -> Result<(), NoMemory>
+    ensures { OnOk result (out.new ≡ out.old ++ join_with_byte 32 words.now) }
 {
-    out.extend_from_slice(b"dump ")?;
-    put_number(alloc, out, u64::from(n))?;
-    out.extend_from_slice(b" ")?;
-    put_number(alloc, out, count)?;
-    out.extend_from_slice(b"\n")
+    match words {
+        [] => Ok(()),
+        [only] => out.extend_from_slice(only.as_slice()),
+        [first, others @ ..] => {
+            out.extend_from_slice(first.as_slice())?;
+            out.push(b' ')?;
+            put_words(out, others)
+        }
+    }
 }
 
-/// Appends the lines of the entry of the suffix.
-#[tactic(auto, unfolding(crate::specs::World::suffix_text))]
-pub(crate) fn put_suffix(out: &mut Bytes) -> Result<(), NoMemory>
-    ensures { OnOk result (out.new ≡ out.old ++ suffix_text) }
+/// Appends the words, joined by one space, and a line feed.
+pub(crate) fn print_words(_alloc: Global, out: &mut Bytes, words: &[Bytes]) -> Result<(), NoMemory>
+    ensures { OnOk result (out.new ≡ out.old ++ words_line words.now) }
 {
-    out.extend_from_slice(
-        b"dn: dc=example\n dc: example\n nsuniqueid: 00000000-00000000-00000000-00000000\n objectclass: domain\n objectclass: top\n",
-    )
-}
-
-#[tactic(auto, unfolding(crate::specs::World::name_text))]
-fn put_name(out: &mut Bytes, unit: &[u8]) -> Result<(), NoMemory>
-    ensures { OnOk result (out.new ≡ out.old ++ name_text unit.now) }
-{
-    out.extend_from_slice(b"dn: ou=")?;
-    out.extend_from_slice(unit)?;
-    out.extend_from_slice(b",dc=example\n")
-}
-
-#[tactic(auto, unfolding(crate::specs::World::values_text))]
-fn put_values(out: &mut Bytes, id: &[u8], unit: &[u8]) -> Result<(), NoMemory>
-    ensures { OnOk result (out.new ≡ out.old ++ values_text id.now unit.now) }
-{
-    out.extend_from_slice(b" nsuniqueid: ")?;
-    out.extend_from_slice(id)?;
-    out.extend_from_slice(b"\n objectclass: top\n ou: ")?;
-    out.extend_from_slice(unit)?;
-    out.extend_from_slice(b"\n")?;
+    put_words(out, words)?;
+    out.push(b'\n')?;
     Ok(())
 }
 
-/// Appends the lines of an entry.
-pub(crate) fn put_entry(out: &mut Bytes, entry: &Added) -> Result<(), NoMemory>
-    ensures { OnOk result (out.new ≡ out.old ++ entry_text entry.now) }
+fn are_printable(value: &[u8]) -> bool
+    ensures { result ≡ list_all is_printable value.now }
 {
-    let id = Uid { csn: entry.csn };
-    put_name(out, entry.unit.as_slice())?;
-    put_values(out, id.text().as_slice(), entry.unit.as_slice())
+    value.iter().all(|b| b' ' <= *b && *b <= b'~')
+}
+
+fn is_plain(value: &[u8]) -> bool
+    ensures { result ≡ is_plain value.now }
+{
+    match value {
+        [] => false,
+        [first, ..] => *first != b' ' && are_printable(value),
+    }
+}
+
+#[tactic(auto, unfolding(crate::specs::Print::plain_line))]
+fn put_plain(out: &mut Bytes, attr: &[u8], value: &[u8]) -> Result<(), NoMemory>
+    ensures { OnOk result (out.new ≡ out.old ++ plain_line attr.now value.now) }
+{
+    out.extend_from_slice(b" ")?;
+    out.extend_from_slice(attr)?;
+    out.extend_from_slice(b": ")?;
+    out.extend_from_slice(value)?;
+    out.extend_from_slice(b"\n")
+}
+
+#[tactic(auto, unfolding(crate::specs::Print::hexadecimal_line))]
+fn put_hexadecimal(
+    alloc: Global,
+    out: &mut Bytes,
+    attr: &[u8],
+    value: &[u8],
+) -> Result<(), NoMemory>
+    ensures { OnOk result (out.new ≡ out.old ++ hexadecimal_line attr.now value.now) }
+{
+    out.extend_from_slice(b" ")?;
+    out.extend_from_slice(attr)?;
+    out.extend_from_slice(b":x ")?;
+    let digits = hexadecimal_word(alloc, value)?;
+    out.extend_from_slice(digits.as_slice())?;
+    out.extend_from_slice(b"\n")
+}
+
+fn print_value(alloc: Global, out: &mut Bytes, attr: &[u8], value: &Val) -> Result<(), NoMemory>
+    ensures { OnOk result (out.new ≡ out.old ++ value_line attr.now value.now) }
+{
+    let spelled = value.spelled.as_slice();
+    if is_plain(spelled) {
+        put_plain(out, attr, spelled)
+    } else {
+        put_hexadecimal(alloc, out, attr, spelled)
+    }
+}
+
+fn print_attr(alloc: Global, out: &mut Bytes, shown: &Shown) -> Result<(), NoMemory>
+    ensures { OnOk result (out.new ≡ out.old ++ attr_lines shown.now) }
+{
+    for value in shown.vals.as_slice() {
+        print_value(alloc, out, shown.attr.name.as_slice(), value)?;
+    }
+    Ok(())
+}
+
+#[tactic(auto, unfolding(crate::specs::Print::dn_line))]
+fn print_dn(out: &mut Bytes, dn: &[u8]) -> Result<(), NoMemory>
+    ensures { OnOk result (out.new ≡ out.old ++ dn_line dn.now) }
+{
+    out.extend_from_slice(b"dn: ")?;
+    out.extend_from_slice(dn)?;
+    out.extend_from_slice(b"\n")
+}
+
+/// Appends the lines of an entry: its name, and its values.
+pub(crate) fn print_entry(
+    alloc: Global,
+    out: &mut Bytes,
+    entry: &ShownEntry,
+) -> Result<(), NoMemory>
+    ensures { OnOk result (out.new ≡ out.old ++ entry_lines entry.now) }
+{
+    print_dn(out, entry.dn.as_slice())?;
+    for shown in entry.attrs.as_slice() {
+        print_attr(alloc, out, shown)?;
+    }
+    Ok(())
 }

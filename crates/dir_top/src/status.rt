@@ -1,7 +1,7 @@
 ghost use Rattle.std.specs.Prelude.{◌≡◌, ◌++◌, IfOk};
 ghost use Rattle.dir_top.specs.Status.{number_of, line_text, text_of};
 
-use crate::print::put_number;
+use crate::print::number_word;
 use crate::why::LineWhy;
 use repl_data::{Bytes, NoMemory};
 use std::alloc::Global;
@@ -78,7 +78,7 @@ fn line_text(alloc: Global, line: u32, what: &[u8]) -> Result<Bytes, NoMemory>
     ensures { IfOk result (λ text. text ≡ line_text line what.now) }
 {
     let mut text = Bytes::from_slice(alloc, b"line ")?;
-    put_number(alloc, &mut text, u64::from(line))?;
+    text.append(number_word(alloc, u64::from(line))?)?;
     text.extend_from_slice(b": ")?;
     text.extend_from_slice(what)?;
     Ok(text)

@@ -2,7 +2,7 @@ ghost use Rattle.std.specs.Prelude.{◌≡◌, ◌++◌, IfOk};
 ghost use Rattle.std.specs.Fmt.{decimal};
 ghost use Rattle.dir_top.specs.Status.{why_text};
 
-use crate::print::put_number;
+use crate::print::number_word;
 use repl_data::{Bytes, NoMemory};
 use std::alloc::Global;
 
@@ -69,7 +69,7 @@ fn numbered(alloc: Global, before: &[u8], number: u64, after: &[u8]) -> Result<B
     ensures { IfOk result (λ text. text ≡ before.now ++ decimal number ++ after.now) }
 {
     let mut text = Bytes::from_slice(alloc, before)?;
-    put_number(alloc, &mut text, number)?;
+    text.append(number_word(alloc, number)?)?;
     text.extend_from_slice(after)?;
     Ok(text)
 }

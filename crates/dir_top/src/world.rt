@@ -1,12 +1,13 @@
-ghost use Rattle.std.specs.Prelude.{◌≡◌, ◌≤◌, length, insert, IfOk};
+ghost use Rattle.std.specs.Prelude.{◌≡◌, ◌≤◌, ◌++◌, [], ◌∷◌, false, codes, length, insert, IfOk, OnOk};
 ghost use Rattle.repl_data.specs.Order.{bytes_cmp};
 ghost use Rattle.std.specs.Ordering.{is_lt};
-ghost use Rattle.dir_top.specs.World.{new_world, connection_in, with_connection, is_open, draw, has_unit, put, add_drawn, add_with, add_text, out_line, dump_text, answer};
+ghost use Rattle.dir_top.specs.World.{new_world, connection_in, with_connection, is_open, draw, has_unit, put, add_drawn, add_with, add_text, out_line, own_key, shown_of, id_of_entry, suffix_entry, unit_entry, entry_text, dump_head, dump_text, answer};
+ghost use Rattle.dir_top.specs.Print.{words_line};
 ghost use Rattle.dir_top.specs.Request.{reply};
 
-use crate::print::{put_dump_head, put_entry, put_out, put_suffix};
+use crate::print::{hexadecimal_word, number_word, print_entry, print_words};
 use crate::request::{Request, reply};
-use repl_data::{Bytes, Csn, Items, NoMemory};
+use repl_data::{AttrKey, Bytes, Csn, Items, NoMemory, Shown, ShownEntry, Uid, Val};
 use std::alloc::Global;
 
 /// A connection of the script.
@@ -205,14 +206,129 @@ impl World {
         ensures { IfOk result (λ text. text ≡ dump_text n self.now) }
     {
         let below = self.added.len() as u64;
-        let mut text = Bytes::new(alloc);
-        put_dump_head(alloc, &mut text, n, below.checked_add(1).ok_or(NoMemory)?)?;
-        put_suffix(&mut text)?;
+        let mut text = dump_head(alloc, n, below.checked_add(1).ok_or(NoMemory)?)?;
+        print_entry(alloc, &mut text, &suffix_entry(alloc)?)?;
         for added in self.added.as_slice() {
-            put_entry(&mut text, added)?;
+            put_unit(alloc, &mut text, added)?;
         }
         Ok(text)
     }
+}
+
+/// The line `dump N COUNT`.
+fn dump_head(alloc: Global, n: u16, count: u64) -> Result<Bytes, NoMemory>
+    ensures { IfOk result (λ text. text ≡ dump_head n count) }
+{
+    let name = Bytes::from_slice(alloc, b"dump")?;
+    line_of_three(
+        alloc,
+        name,
+        number_word(alloc, u64::from(n))?,
+        number_word(alloc, count)?,
+    )
+}
+
+/// A line of three words.
+fn line_of_three(
+    alloc: Global,
+    first: Bytes,
+    second: Bytes,
+    third: Bytes,
+) -> Result<Bytes, NoMemory>
+    ensures { IfOk result (λ text. text ≡ words_line (first ∷ second ∷ third ∷ [])) }
+{
+    let words = [first, second, third];
+    let mut text = Bytes::new(alloc);
+    print_words(alloc, &mut text, &words)?;
+    Ok(text)
+}
+
+fn put_unit(alloc: Global, text: &mut Bytes, added: &Added) -> Result<(), NoMemory>
+    ensures { OnOk result (text.new ≡ text.old ++ entry_text added.now) }
+{
+    let entry = unit_entry(alloc, added)?;
+    print_entry(alloc, text, &entry)
+}
+
+/// A text that is its own key.
+fn own_key(alloc: Global, text: &[u8]) -> Result<Val, NoMemory>
+    ensures { IfOk result (λ val. val ≡ own_key text.now) }
+{
+    let key = Bytes::from_slice(alloc, text)?;
+    let spelled = Bytes::from_slice(alloc, text)?;
+    Ok(Val { key, spelled })
+}
+
+/// An attribute with one value.
+fn one_value(alloc: Global, name: &[u8], text: &[u8], operational: bool) -> Result<Shown, NoMemory>
+    ensures { IfOk result (λ shown. shown ≡ shown_of name.now (text.now ∷ []) operational) }
+{
+    let name = Bytes::from_slice(alloc, name)?;
+    let mut vals = Items::new(alloc);
+    vals.push(own_key(alloc, text)?)?;
+    Ok(Shown {
+        attr: AttrKey { name },
+        vals,
+        operational,
+    })
+}
+
+fn id_of_entry(alloc: Global, csn: Csn) -> Result<Shown, NoMemory>
+    ensures { IfOk result (λ shown. shown ≡ id_of_entry csn) }
+{
+    let id = Uid { csn };
+    one_value(alloc, b"nsuniqueid", id.text().as_slice(), true)
+}
+
+/// The classes of the suffix.
+fn suffix_classes(alloc: Global) -> Result<Shown, NoMemory>
+    ensures { IfOk result (λ shown. shown ≡ shown_of (codes "objectclass") (codes "domain" ∷ codes "top" ∷ []) false) }
+{
+    let mut shown = one_value(alloc, b"objectclass", b"domain", false)?;
+    shown.vals.push(own_key(alloc, b"top")?)?;
+    Ok(shown)
+}
+
+/// The entry of the suffix.
+#[tactic(auto, unfolding(crate::specs::World::suffix_entry))]
+fn suffix_entry(alloc: Global) -> Result<ShownEntry, NoMemory>
+    ensures { IfOk result (λ entry. entry ≡ suffix_entry) }
+{
+    let mut attrs = Items::new(alloc);
+    attrs.push(one_value(alloc, b"dc", b"example", false)?)?;
+    attrs.push(id_of_entry(alloc, Csn::ZERO)?)?;
+    attrs.push(suffix_classes(alloc)?)?;
+    Ok(ShownEntry {
+        id: Uid::SUFFIX,
+        dn: Bytes::from_slice(alloc, b"dc=example")?,
+        attrs,
+    })
+}
+
+fn unit_name(alloc: Global, unit: &[u8]) -> Result<Bytes, NoMemory>
+    ensures { IfOk result (λ dn. dn ≡ codes "ou=" ++ unit.now ++ codes ",dc=example") }
+{
+    let mut dn = Bytes::from_slice(alloc, b"ou=")?;
+    dn.extend_from_slice(unit)?;
+    dn.extend_from_slice(b",dc=example")?;
+    Ok(dn)
+}
+
+/// The entry of an organizational unit.
+#[tactic(auto, unfolding(crate::specs::World::unit_entry))]
+fn unit_entry(alloc: Global, added: &Added) -> Result<ShownEntry, NoMemory>
+    ensures { IfOk result (λ entry. entry ≡ unit_entry added.now) }
+{
+    let unit = added.unit.as_slice();
+    let mut attrs = Items::new(alloc);
+    attrs.push(id_of_entry(alloc, added.csn)?)?;
+    attrs.push(one_value(alloc, b"objectclass", b"top", false)?)?;
+    attrs.push(one_value(alloc, b"ou", unit, false)?)?;
+    Ok(ShownEntry {
+        id: Uid { csn: added.csn },
+        dn: unit_name(alloc, unit)?,
+        attrs,
+    })
 }
 
 /// The reply with the text of its code, as a line.
@@ -220,7 +336,11 @@ fn out_line(alloc: Global, c: u16, id: u8, tag: u8, code: u8) -> Result<Bytes, N
     ensures { IfOk result (λ text. text ≡ out_line c (reply id tag code (add_text code))) }
 {
     let reply = reply(alloc, id, tag, code, add_text(code))?;
-    let mut text = Bytes::new(alloc);
-    put_out(alloc, &mut text, c, reply.as_slice())?;
-    Ok(text)
+    let name = Bytes::from_slice(alloc, b"out")?;
+    line_of_three(
+        alloc,
+        name,
+        number_word(alloc, u64::from(c))?,
+        hexadecimal_word(alloc, reply.as_slice())?,
+    )
 }
