@@ -11,26 +11,9 @@ use Rattle.caseless.specs.Caseless.{default_case_fold}
 use Rattle.caseless.proofs.CaselessLemmas.{default_case_fold-ascii}
 use Rattle.unicode_normalization.specs.Forms.{nfkc, Nfkc}
 use Rattle.unicode_normalization.proofs.FormsLemmas.{normalize-ascii}
-use Rattle.attr_keys.specs.Value.{folded, bad_text, bad_unless, has_text, utf8_fault}
-
-lower-ascii : (b : ℕ) → b < 128 → to_ascii_lowercase b < 128
-lower-ascii b h = grind (arith, nat_tests)
-
-pub IsAscii-lower : (bs : List ℕ) → IsAscii bs → IsAscii (map to_ascii_lowercase bs)
-IsAscii-lower [] h = h
-IsAscii-lower (b ∷ bs) h = cons (lower-ascii b (h 0)) (IsAscii-lower bs (λ i. h (suc i)))
-  where
-    cons : to_ascii_lowercase b < 128 → IsAscii (map to_ascii_lowercase bs) → IsAscii (map to_ascii_lowercase (b ∷ bs))
-    cons first rest zero = first
-    cons first rest (suc i) = rest i
-
-pub folded-ascii : (bs : List ℕ) → IsAscii bs → folded bs ≡ map to_ascii_lowercase bs
-unfolding folded
-folded-ascii bs h =
-    ap (λ (cs : List ℕ). encode_utf8_all (nfkc (default_case_fold cs))) (chars-IsAscii bs h)
-    ∙ ap (λ (cs : List ℕ). encode_utf8_all (nfkc cs)) (default_case_fold-ascii bs (All-from_ascii bs h))
-    ∙ ap encode_utf8_all (normalize-ascii Nfkc _ (All-from_ascii _ (IsAscii-lower bs h)))
-    ∙ encodes-IsAscii _ (IsAscii-lower bs h)
+use Rattle.repl_data.specs.Key.{text_key}
+use Rattle.attr_keys.specs.declared.kind.Kind.TheVariants.{Dir}
+use Rattle.attr_keys.specs.Value.{value_key, prepared, bad_text, bad_unless, has_text, utf8_fault}
 
 whole-from_none : (n len : ℕ) (b : Bool) → nat_lt n len ≡ b → cond b (Some n) None ≡ None → len ≤ n
 whole-from_none n len true e h = cc
@@ -65,3 +48,8 @@ bad_text-none bs none = text-cases bs false (test (is_utf8 bs) refl)
     test : (b : Bool) → is_utf8 bs ≡ b → is_utf8 bs ≡ false
     test true e = absurd (none (IsUtf8-from_is_utf8 bs e))
     test false e = e
+
+-- the key of a directory string is that of a derived value
+pub value_key-text : (bs : List ℕ) → value_key Dir bs ≡ text_key bs
+unfolding value_key prepared text_key
+value_key-text bs = refl

@@ -1,5 +1,5 @@
 -- Which values an attribute accepts, and their keys.
-use Rattle.std.specs.Prelude.{◌≡◌, ℕ, ◌+◌, ◌*◌, ◌-◌, ◌^◌, Bool, true, false, ◌==◌, ◌||◌, ◌&&◌, not, nat_le, ℤ, pos, ◌-ℤ◌, List, [], ◌∷◌, length, map, filter, position, drop, remove, slice_index, chars, encode_utf8_all, Option, Some, None, if◌then◌else◌}
+use Rattle.std.specs.Prelude.{◌≡◌, ℕ, ◌+◌, ◌*◌, ◌-◌, ◌^◌, Bool, true, false, ◌==◌, ◌||◌, ◌&&◌, not, nat_le, ℤ, pos, ◌-ℤ◌, List, [], ◌∷◌, length, map, filter, position, drop, slice_index, chars, encode_utf8_all, Option, Some, None, if◌then◌else◌}
 use Rattle.std.specs.List.{list_any}
 use Rattle.std.specs.Char.{to_ascii_lowercase}
 use Rattle.std.specs.Int.{is_in_range}
@@ -15,8 +15,8 @@ use Rattle.attr_keys.specs.declared.fault.KeyFault.TheVariants.{NoMemory, BadNam
 use Rattle.attr_keys.specs.declared.number.NumberState.{NumberState}
 use Rattle.attr_keys.specs.declared.number.NumberState.TheVariants.{Start, Minus, Zero, Digits}
 use Rattle.attr_keys.specs.Name.{is_digit}
-use Rattle.caseless.specs.Caseless.{default_case_fold}
 use Rattle.unicode_normalization.specs.Forms.{nfkc}
+use Rattle.repl_data.specs.Key.{folded, squeezed, trimmed}
 
 -- ---- texts
 
@@ -135,10 +135,6 @@ IsValueFault bad (BadValue place) = bad ≡ Some place
 
 -- ---- keys
 
--- full case folding (RFC 4518, section 2.2, has another table), and then the form NFKC (section 2.3)
-unfoldable pub folded : List ℕ → List ℕ
-folded bytes = encode_utf8_all (nfkc (default_case_fold (chars bytes)))
-
 unfoldable pub composed : List ℕ → List ℕ
 composed bytes = encode_utf8_all (nfkc (chars bytes))
 
@@ -163,18 +159,6 @@ is_spaced Ia5 = true
 is_spaced Int = false
 is_spaced Tel = false
 is_spaced Oct = false
-
--- Runs of spaces made one. After a space, which the flag tells, no further one is kept.
-abbrev pub squeezed : Bool → List ℕ → List ℕ
-squeezed after [] = []
-squeezed after (b ∷ bs) = if after && b == 32 then squeezed true bs else b ∷ squeezed (b == 32) bs
-
-abbrev pub without_last_space : List ℕ → List ℕ
-without_last_space bytes = if slice_index bytes (length bytes - 1) == 32 then remove bytes (length bytes - 1) else bytes
-
--- Outer spaces dropped and runs of spaces made one: as if a space came before, and a last one left out.
-abbrev pub trimmed : List ℕ → List ℕ
-trimmed bytes = without_last_space (squeezed true bytes)
 
 -- the key of a value
 unfoldable pub value_key : Kind → List ℕ → List ℕ

@@ -2,6 +2,7 @@ ghost use Rattle.std.specs.Prelude.{◌≡◌, ℕ, List};
 ghost use Rattle.attr_keys.specs.declared.kind.Kind.{Kind};
 ghost use Rattle.attr_keys.specs.Table.{key_of};
 ghost use Rattle.attr_keys.specs.Value.{value_key};
+ghost use Rattle.repl_data.specs.Key.{text_key};
 ghost use Rattle.attr_keys.specs.Laws.{AreEqualNames, AreEqualValues};
 
 /// What the keys of names and values are to one another.
@@ -17,6 +18,9 @@ pub fn key_laws()
         value_key Kind.Tel (value_key Kind.Tel value) ≡ value_key Kind.Tel value }
     ensures bytes_again { (value : List ℕ) →
         value_key Kind.Oct (value_key Kind.Oct value) ≡ value_key Kind.Oct value }
+
+    // A directory string has the key that values derived by a view have.
+    ensures text { (value : List ℕ) → value_key Kind.Dir value ≡ text_key value }
 
     // Equality of names, and of values of one kind, is an equivalence.
     ensures same_name { (a : List ℕ) → AreEqualNames a a }

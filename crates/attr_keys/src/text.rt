@@ -4,7 +4,8 @@ ghost use Rattle.std.specs.Str.{IsAscii, IsErrorLen, valid_up_to, error_len};
 ghost use Rattle.std.specs.Str.Lossy.{utf8_valid_len, utf8_error_len};
 ghost use Rattle.caseless.specs.Caseless.{default_case_fold};
 ghost use Rattle.unicode_normalization.specs.Forms.{nfkc};
-ghost use Rattle.attr_keys.specs.Value.{bad_text, bad_phone, bad_unless, has_text, is_mark, utf8_fault, character_fault, folded, composed, phone_key, squeezed, trimmed, without_last_space};
+ghost use Rattle.repl_data.specs.Key.{folded, squeezed, trimmed, without_last_space};
+ghost use Rattle.attr_keys.specs.Value.{bad_text, bad_phone, bad_unless, has_text, is_mark, utf8_fault, character_fault, composed, phone_key};
 
 use crate::name::lower;
 use caseless::default_case_fold_str;
@@ -142,7 +143,7 @@ fn folded_string(alloc: Global, text: &str) -> Result<String, AllocError>
     to_nfkc(alloc, folded.as_str())
 }
 
-#[tactic(auto, unfolding(crate::specs::Value::folded))]
+#[tactic(auto, unfolding(repl_data::specs::Key::folded))]
 fn folded_unicode(alloc: Global, text: &str) -> Result<Bytes, NoMemory>
     ensures { IfOk result (λ t. t ≡ folded text.now) }
 {

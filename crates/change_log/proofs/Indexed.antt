@@ -12,7 +12,7 @@ use Rattle.repl_data.specs.declared.change.Change.{Change}
 use Rattle.vector_core.specs.Greatest.{greatest}
 use Rattle.vector_core.proofs.Lists.{Contains-filter, filter-Contains, Contains-map, map-Contains}
 use Rattle.vector_core.proofs.Greatests.{greatest_same}
-use Rattle.vector_core.proofs.Orders.{csn_lt-connected}
+use Rattle.repl_data.proofs.CsnTests.{csn_lt-connected}
 use Rattle.change_log.specs.declared.index.Place.{Place}
 use Rattle.change_log.specs.Log.{is_before, csns_of, prev_in}
 use Rattle.change_log.specs.Index.{place_lt, no_place, IsRising, IsIndex}

@@ -11,7 +11,7 @@ use Rattle.vector_core.specs.Greatest.{greatest}
 use Rattle.vector_core.proofs.Lists.{if_true, if_false, Contains-filter, filter-Contains, Contains-map, map-Contains}
 use Rattle.vector_core.proofs.Greatests.{greatest_is, greatest_none}
 use Rattle.change_log.specs.Log.{is_before}
-use Rattle.vector_core.proofs.Orders.{csn_lt-trans, csn_lt-one_way, csn_lt-irreflexive}
+use Rattle.repl_data.proofs.CsnTests.{csn_lt-trans, csn_lt-one_way, csn_lt-irreflexive}
 use Rattle.change_log.specs.declared.index.Place.{Place}
 use Rattle.change_log.specs.Index.{place_lt, no_place, IsRising, is_upto}
 

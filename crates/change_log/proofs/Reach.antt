@@ -7,7 +7,7 @@ use Rattle.repl_data.specs.declared.change.Change.{Change}
 use Rattle.repl_data.specs.Order.{csn_lt, csn_le, zero_csn}
 use Rattle.vector_core.specs.Vector.{entry_of}
 use Rattle.vector_core.proofs.Lists.{if_true, if_false}
-use Rattle.vector_core.proofs.Orders.{csn_lt-irreflexive, csn_lt-one_way, csn_lt-le_trans, csn_lt-zero, csn_le-from_not, csn_not-from_le}
+use Rattle.repl_data.proofs.CsnTests.{csn_lt-irreflexive, csn_lt-one_way, csn_lt-le_trans, csn_lt-zero, csn_le-from_not, csn_not-from_le}
 use Rattle.vector_core.proofs.Greatests.{at_most-trans}
 use Rattle.vector_core.proofs.Entries.{entry_none, entry_or_none}
 use Rattle.change_log.specs.declared.index.Place.{Place}

@@ -11,7 +11,7 @@ use Rattle.std.proofs.lemmas.List.Elements.{filter-append, All-get_or, All-from_
 use Rattle.repl_data.specs.declared.csn.Csn.{Csn}
 use Rattle.repl_data.specs.Order.{csn_lt, csn_le, csn_eq, zero_csn}
 use Rattle.pending_core.specs.Pending.{IsRising, IsAbove, IsLeast, without}
-use Rattle.pending_core.proofs.Orders.{csn_lt-irreflexive, csn_lt-trans, csn_lt-one_way, csn_le-from_not, csn_eq-not_lt, csn_eq-not_gt, csn_eq-same}
+use Rattle.repl_data.proofs.CsnTests.{csn_lt-irreflexive, csn_lt-trans, csn_lt-one_way, csn_le-from_not, csn_eq-not_lt, csn_eq-not_gt, csn_eq-same}
 
 pub IsRising-parted : (xs : List Csn) (c : Csn) → IsRising xs → IsPartitionedBy (λ x. csn_lt x c) xs
 IsRising-parted xs c is = λ i j d le l h.

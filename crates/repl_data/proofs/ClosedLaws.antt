@@ -51,7 +51,7 @@ then_less Greater b h = let d : Greater ≡ Less = h in cc
 then_not : (n : ℕ) (b : Ordering) → (b ≡ Less → ⊥) → ordering_then (nat_cmp n 0) b ≡ Less → ⊥
 then_not n b g h = elim (then_less _ _ h) [ inl e ↦ no_number_below n e | inr e ↦ g e ]
 
-no_csn_below : (c : Csn) → csn_cmp c zero_csn ≡ Less → ⊥
+pub no_csn_below : (c : Csn) → csn_cmp c zero_csn ≡ Less → ⊥
 no_csn_below c h = then_not c.time _ (then_not c.seq _ (then_not c.rid _ (no_number_below c.sub))) h
 
 pub zero_least : (c : Csn) → (csn_cmp zero_csn c ≡ Less) ⊎ (zero_csn ≡ c)
@@ -69,7 +69,7 @@ latest_or-All P none (x ∷ xs) h g = by (csn_lt x.0 (latest_or none xs).0) (lat
     by false k = g.0
 
 -- a sound Add names a parent below it
-less : (o : Ordering) → is_lt o ≡ true → o ≡ Less
+pub less : (o : Ordering) → is_lt o ≡ true → o ≡ Less
 less Less h = refl
 less Equal h = absurd (not_both false h refl)
 less Greater h = absurd (not_both false h refl)

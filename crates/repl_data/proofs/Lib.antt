@@ -1,6 +1,7 @@
 pub mod Numbers
 pub mod Bytes
 pub mod Orders
+pub mod CsnTests
 pub mod Shuffled
 pub mod SameView
 pub mod Sound
@@ -12,7 +13,9 @@ pub mod ClosedLaws
 pub mod Raised
 pub mod OneChange
 pub mod NamesDiffer
+pub mod NamesClosed
 pub mod Repeats
 pub mod Arrival
 pub mod CheckLaws
 pub mod Rows
+pub mod TextKeys

@@ -1,29 +1,26 @@
 -- THE KEY OF A DIRECTORY STRING, by which its spellings compare: full case folding, then compatibility
 -- composition, then outer spaces dropped and runs of spaces made one. (After RFC 4518, section 2.)
-use Rattle.std.specs.Prelude.{ℕ, Bool, true, false, ◌==◌, ◌&&◌, List, [], ◌∷◌, chars, encode_utf8_all, if◌then◌else◌}
-use Rattle.std.specs.List.{list_all}
+use Rattle.std.specs.Prelude.{ℕ, ◌-◌, Bool, true, ◌==◌, ◌&&◌, List, [], ◌∷◌, length, remove, slice_index, chars, encode_utf8_all, if◌then◌else◌}
 use Rattle.caseless.specs.Caseless.{default_case_fold}
 use Rattle.unicode_normalization.specs.Forms.{nfkc}
 
--- a space is U+0020
-abbrev pub is_space : ℕ → Bool
-is_space c = c == 32
+-- full case folding (RFC 4518, section 2.2, has another table), and then the form NFKC (section 2.3)
+unfoldable pub folded : List ℕ → List ℕ
+folded bytes = encode_utf8_all (nfkc (default_case_fold (chars bytes)))
 
--- runs of spaces made one. The flag says that a space came before
-abbrev pub squeezed_after : Bool → List ℕ → List ℕ
-squeezed_after before [] = []
-squeezed_after before (c ∷ cs) = if before && is_space c then squeezed_after true cs else c ∷ squeezed_after (is_space c) cs
+-- Runs of spaces made one (section 2.6.1); a space is U+0020. After a space, which the flag tells, no further
+-- one is kept.
+abbrev pub squeezed : Bool → List ℕ → List ℕ
+squeezed after [] = []
+squeezed after (b ∷ bs) = if after && b == 32 then squeezed true bs else b ∷ squeezed (b == 32) bs
 
--- the spaces in front left out
-abbrev pub trimmed_front : List ℕ → List ℕ
-trimmed_front [] = []
-trimmed_front (c ∷ cs) = if is_space c then trimmed_front cs else c ∷ cs
+abbrev pub without_last_space : List ℕ → List ℕ
+without_last_space bytes = if slice_index bytes (length bytes - 1) == 32 then remove bytes (length bytes - 1) else bytes
 
--- the spaces at the end left out
-abbrev pub trimmed_end : List ℕ → List ℕ
-trimmed_end [] = []
-trimmed_end (c ∷ cs) = if list_all is_space (c ∷ cs) then [] else c ∷ trimmed_end cs
+-- Outer spaces dropped and runs of spaces made one: as if a space came before, and a last one left out.
+abbrev pub trimmed : List ℕ → List ℕ
+trimmed bytes = without_last_space (squeezed true bytes)
 
 -- the key of a text of UTF-8
 unfoldable pub text_key : List ℕ → List ℕ
-text_key text = trimmed_end (trimmed_front (encode_utf8_all (squeezed_after false (nfkc (default_case_fold (chars text))))))
+text_key text = trimmed (folded text)

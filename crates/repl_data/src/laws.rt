@@ -1,4 +1,4 @@
-ghost use Rattle.std.specs.Prelude.{◌≡◌, ◌||◌, Bool, true, false, List, [], ◌∷◌, ◌++◌, IsTrue, map, filter};
+ghost use Rattle.std.specs.Prelude.{◌≡◌, ◌||◌, ℕ, Bool, true, false, List, [], ◌∷◌, ◌++◌, IsTrue, map, filter};
 ghost use Rattle.std.specs.List.{AllByRecursion, list_all, list_any};
 ghost use Rattle.repl_data.specs.declared.csn.Uid.{Uid};
 ghost use Rattle.repl_data.specs.declared.change.Change.{Change};
@@ -11,15 +11,19 @@ ghost use Rattle.repl_data.specs.Facts.{EntryFacts, all_facts, own_facts};
 ghost use Rattle.repl_data.specs.Presence.{is_live, is_child, present_of, HasParentBelow, ObeysRule, is_present_in, StandsIn};
 ghost use Rattle.repl_data.specs.Names.{has_id, shown_rdn};
 ghost use Rattle.repl_data.specs.Order.{put_by};
-ghost use Rattle.repl_data.specs.View.{view_of};
+ghost use Rattle.repl_data.specs.Key.{text_key};
+ghost use Rattle.repl_data.specs.View.{view_of, glue_class, tombstone_class, glue_conflict, naming_conflict, id_val};
 
 /// The view of a set of changes does not depend on the list that spells it.
 pub fn view_laws()
     // Closed sets with the same changes have equal views, whatever the order.
     ensures order { (suffix : Suffix) (xs ys : List Change) → IsClosed xs → IsClosed ys → SameChanges xs ys → view_of suffix xs ≡ view_of suffix ys }
 
-    // A change that comes again says nothing more of its entry.
-    ensures again { (suffix : Suffix) (u : Uid) (own : List Change) (c : Change) → IsTrue (all_differ (map (λ (d : Change). d.csn) own)) → IsTrue (list_all is_sound own) → IsIn c own → own_facts suffix u (own ++ c ∷ []) ≡ own_facts suffix u own }
+    // A change that comes again changes nothing in the view.
+    ensures again { (suffix : Suffix) (xs : List Change) (c : Change) → IsClosed xs → IsIn c xs → view_of suffix (xs ++ c ∷ []) ≡ view_of suffix xs }
+
+    // Nor does it say more of its entry, whose own changes may come alone.
+    ensures again_own { (suffix : Suffix) (u : Uid) (own : List Change) (c : Change) → IsTrue (all_differ (map (λ (d : Change). d.csn) own)) → IsTrue (list_all is_sound own) → IsIn c own → own_facts suffix u (own ++ c ∷ []) ≡ own_facts suffix u own }
 
     // An order of arrival is a closed set.
     ensures arrival { (xs : List Change) → IsArrival xs → IsClosed xs }
@@ -43,8 +47,20 @@ pub fn presence_laws()
     ensures only { (suffix : Suffix) (xs : List Change) (p : EntryFacts → Bool) → IsClosed xs → AllByRecursion (ObeysRule p (all_facts suffix xs)) (all_facts suffix xs) → filter p (all_facts suffix xs) ≡ present_of (all_facts suffix xs) }
 {}
 
-/// Of the present entries with one parent no two show the same relative name, where no name has a part
-/// `nsuniqueid` of its own and one CSN names one entry.
+/// In a closed set no two present entries with one parent show the same relative name.
 pub fn name_laws()
-    ensures { (present : List EntryFacts) (p : Uid) (e f : EntryFacts) → StandsIn e present → StandsIn f present → is_child p e ≡ true → is_child p f ≡ true → has_id e.rdn ≡ false → has_id f.rdn ≡ false → IsInRange e.id.csn → IsInRange f.id.csn → (e.named ≡ f.named → e.id ≡ f.id) → rdn_key (shown_rdn present e) ≡ rdn_key (shown_rdn present f) → e.id ≡ f.id }
+    ensures differ { (suffix : Suffix) (xs : List Change) (p : Uid) (e f : EntryFacts) → IsClosed xs → AllByRecursion (λ (c : Change). IsInRange c.csn) xs → StandsIn e (present_of (all_facts suffix xs)) → StandsIn f (present_of (all_facts suffix xs)) → is_child p e ≡ true → is_child p f ≡ true → rdn_key (shown_rdn (present_of (all_facts suffix xs)) e) ≡ rdn_key (shown_rdn (present_of (all_facts suffix xs)) f) → e.id ≡ f.id }
+
+    // The same of any list of entries in which no name has a part `nsuniqueid` of its own, and one CSN names
+    // one entry.
+    ensures of_entries { (present : List EntryFacts) (p : Uid) (e f : EntryFacts) → StandsIn e present → StandsIn f present → is_child p e ≡ true → is_child p f ≡ true → has_id e.rdn ≡ false → has_id f.rdn ≡ false → IsInRange e.id.csn → IsInRange f.id.csn → (e.named ≡ f.named → e.id ≡ f.id) → rdn_key (shown_rdn present e) ≡ rdn_key (shown_rdn present f) → e.id ≡ f.id }
+{}
+
+/// Each value that a view derives has the key of its text, as any other value: a search for the shown text finds it.
+pub fn derived_laws()
+    ensures glue { glue_class.key ≡ text_key glue_class.spelled }
+    ensures tombstone { tombstone_class.key ≡ text_key tombstone_class.spelled }
+    ensures glue_conflict { glue_conflict.key ≡ text_key glue_conflict.spelled }
+    ensures naming_conflict { (dn : List ℕ) → (naming_conflict dn).key ≡ text_key (naming_conflict dn).spelled }
+    ensures id { (u : Uid) → (id_val u).key ≡ text_key (id_val u).spelled }
 {}

@@ -15,5 +15,5 @@ pub use change::{
 pub use csn::{Csn, CsnList, Uid, UidList};
 pub use faults::{check, weight};
 pub use items::{Bytes, BytesList, Items, NoMemory};
-pub use laws::{name_laws, presence_laws, view_laws};
+pub use laws::{derived_laws, name_laws, presence_laws, view_laws};
 pub use view::View;

@@ -12,7 +12,7 @@ use Rattle.repl_data.specs.Order.{csn_lt, zero_csn}
 use Rattle.vector_core.specs.Greatest.{later_of, greatest}
 use Rattle.vector_core.specs.Vector.{IsVector, entry_of, IsRaised, IsMerged, HasEntries}
 use Rattle.vector_core.proofs.Lists.{Contains-filter, filter-Contains, if_true, if_false}
-use Rattle.vector_core.proofs.Orders.{csn_lt-irreflexive, csn_lt-zero}
+use Rattle.repl_data.proofs.CsnTests.{csn_lt-irreflexive, csn_lt-zero}
 use Rattle.vector_core.proofs.Greatests.{greatest_is, greatest_none, greatest-push, later_of_assoc, later_right, later_left, later_zero, zero_later}
 
 -- this entry stands somewhere

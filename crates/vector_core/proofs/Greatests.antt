@@ -5,7 +5,7 @@ use Rattle.repl_data.specs.declared.csn.Csn.{Csn}
 use Rattle.repl_data.specs.Order.{csn_lt, zero_csn}
 use Rattle.vector_core.specs.Greatest.{later_of, greatest}
 use Rattle.vector_core.proofs.Lists.{Contains-nil, Contains-here, Contains-there, Contains-cons_cases, if_true, if_false}
-use Rattle.vector_core.proofs.Orders.{csn_lt-irreflexive, csn_lt-trans, csn_lt-one_way, csn_lt-connected, csn_lt-le_trans, csn_lt-zero}
+use Rattle.repl_data.proofs.CsnTests.{csn_lt-irreflexive, csn_lt-trans, csn_lt-one_way, csn_lt-connected, csn_lt-le_trans, csn_lt-zero}
 
 pub later_of-cases : (a b : Csn) → ((later_of a b ≡ a) × (csn_lt a b ≡ false)) ⊎ ((later_of a b ≡ b) × (csn_lt a b ≡ true))
 later_of-cases a b =

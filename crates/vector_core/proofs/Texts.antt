@@ -13,7 +13,7 @@ use Rattle.repl_data.specs.Text.{IsInRange, csn_text, read_csn}
 use Rattle.repl_data.proofs.Bytes.{read_csn-csn_text, read_csn-exact}
 use Rattle.vector_core.specs.Vector.{entry_of, HasEntries}
 use Rattle.vector_core.specs.Text.{replica_text, entry_text, IsEntry, IsVectorText}
-use Rattle.vector_core.proofs.Orders.{csn_lt-connected, csn_lt-zero}
+use Rattle.repl_data.proofs.CsnTests.{csn_lt-connected, csn_lt-zero}
 use Rattle.vector_core.proofs.Lists.{Contains-filter, filter-Contains}
 use Rattle.vector_core.proofs.Entries.{At-Contains, Contains-At}
 use Rattle.vector_core.proofs.Greatests.{greatest-above, greatest-among}

@@ -1,5 +1,6 @@
 use Rattle.attr_keys.proofs.Again.{int-again, tel-again, oct-again}
 use Rattle.attr_keys.proofs.NamesAgain.{key_of-again}
+use Rattle.attr_keys.proofs.Texts.{value_key-text}
 use Rattle.attr_keys.proofs.laws.key_laws.Goals as goal
 
 pub returns-clause-name_again : goal.returns-clause-name_again
@@ -13,3 +14,6 @@ returns-clause-phone_again c = tel-again
 
 pub returns-clause-bytes_again : goal.returns-clause-bytes_again
 returns-clause-bytes_again c = oct-again
+
+pub returns-clause-text : goal.returns-clause-text
+returns-clause-text c = value_key-text

@@ -1,6 +1,6 @@
 use Rattle.std.proofs.Common.{sym, ◌∙◌}
 use Rattle.std.proofs.lemmas.Result.{IfOk-weaker}
-use Rattle.attr_keys.proofs.Texts.{folded-ascii}
+use Rattle.repl_data.proofs.TextKeys.{folded-ascii}
 use Rattle.attr_keys.proofs.text.folded_ascii.Goals as goal
 
 pub returns : goal.returns

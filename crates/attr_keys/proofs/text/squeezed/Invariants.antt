@@ -1,5 +1,5 @@
 use Rattle.std.proofs.Common.{◌≡◌, ◌++◌, drop}
-use Rattle.attr_keys.specs.Value.{squeezed}
+use Rattle.repl_data.specs.Key.{squeezed}
 use Rattle.attr_keys.proofs.text.squeezed.Given as goal
 
 abbrev pub invariant-loop-b : goal.invariant-loop-b

@@ -1,6 +1,6 @@
 use Rattle.std.proofs.Common.{refl}
 use Rattle.vector_core.specs.Greatest.{greatest}
-use Rattle.vector_core.proofs.Orders.{csn_le-from_not}
+use Rattle.repl_data.proofs.CsnTests.{csn_le-from_not}
 use Rattle.vector_core.proofs.Greatests.{greatest-above, greatest-among, greatest_same, greatest-push}
 use Rattle.vector_core.proofs.vector.greatest_laws.Goals as goal
 

@@ -1,7 +1,7 @@
 use Rattle.std.proofs.Common.{sym, ap, ◌∙◌}
 use Rattle.std.specs.Ordering.{is_lt}
 use Rattle.vector_core.proofs.Lists.{none_is}
-use Rattle.vector_core.proofs.Orders.{ge_is, ge_is_not}
+use Rattle.repl_data.proofs.CsnTests.{ge_is, ge_is_not}
 use Rattle.vector_core.proofs.Entries.{set_step, same_step, insert_step}
 use Rattle.vector_core.proofs.vector.raise_in.Goals as goal
 

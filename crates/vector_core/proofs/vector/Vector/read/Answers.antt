@@ -2,7 +2,7 @@ use Rattle.std.proofs.Common.{sym, ap, ◌∙◌, subst, Ok, ◌∷◌, [], ◌+
 use Rattle.std.specs.Ordering.{is_gt}
 use Rattle.vector_core.specs.Text.{IsVectorText}
 use Rattle.vector_core.proofs.Lists.{none_from_not}
-use Rattle.vector_core.proofs.Orders.{zero_from_not_gt, not_zero_from_gt}
+use Rattle.repl_data.proofs.CsnTests.{zero_from_not_gt, not_zero_from_gt}
 use Rattle.vector_core.proofs.Entries.{alike_more}
 use Rattle.vector_core.proofs.Texts.{none_where_bad, none_where_double, IsVectorText-more}
 use Rattle.vector_core.proofs.vector.Vector.read.Goals as goal

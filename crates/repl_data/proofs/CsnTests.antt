@@ -1,41 +1,13 @@
--- CSNs are in one total order.
-use Rattle.std.proofs.Common.{◌≡◌, ℕ, true, false, inl, inr, refl, sym, ap, ap₂, subst, ◌∙◌, not, ◌<◌, arith}
-use Rattle.std.proofs.lemmas.Cmp.{on_total, then_total, nat_cmp_total, tied_itself, ranked}
+-- The tests by which CSNs are compared.
+use Rattle.std.proofs.Common.{◌≡◌, ℕ, true, false, inl, inr, refl, sym, ap, subst, ◌∙◌, not, ◌<◌, arith}
+use Rattle.std.proofs.lemmas.Cmp.{tied_itself, ranked}
 use Rattle.std.proofs.lemmas.Bool.{cases_Bool}
-use Rattle.std.specs.Cmp.{IsTotalOrder}
 use Rattle.std.specs.declared.cmp.Ordering.{Ordering}
 use Rattle.std.specs.declared.cmp.Ordering.TheVariants.{Less, Equal, Greater}
-use Rattle.std.specs.Ordering.{nat_cmp, ordering_then, ordering_reverse, is_lt, is_le, is_ge, is_gt}
+use Rattle.std.specs.Ordering.{nat_cmp, ordering_then, ordering_reverse, is_lt, is_le, is_ge, is_gt, is_eq}
 use Rattle.repl_data.specs.declared.csn.Csn.{Csn}
-use Rattle.repl_data.specs.Order.{csn_cmp, csn_lt, csn_le, zero_csn}
-
-pub csn_total : IsTotalOrder csn_cmp
-csn_total =
-    then_total (on_total (λ (c : Csn). c.time) nat_cmp_total)
-    (then_total (on_total (λ (c : Csn). c.seq) nat_cmp_total)
-    (then_total (on_total (λ (c : Csn). c.rid) nat_cmp_total) (on_total (λ (c : Csn). c.sub) nat_cmp_total)))
-
-abbrev csn_made : ℕ → ℕ → ℕ → ℕ → Csn
-csn_made t s r u = record { time = t; seq = s; rid = r; sub = u }
-
-pub csn_by_parts : (a b : Csn) → a.time ≡ b.time → a.seq ≡ b.seq → a.rid ≡ b.rid → a.sub ≡ b.sub → a ≡ b
-csn_by_parts a b t s r u = ap₂ (λ x y. csn_made x y a.rid a.sub) t s ∙ ap₂ (λ x y. csn_made b.time b.seq x y) r u
-
-then_equal : (p q : Ordering) → ordering_then p q ≡ Equal → (p ≡ Equal) × (q ≡ Equal)
-then_equal Less q e = absurd cc
-then_equal Equal q e = (refl, e)
-then_equal Greater q e = absurd cc
-
-same_number : (x y : ℕ) → nat_cmp x y ≡ Equal → x ≡ y
-same_number x y e = ranked x y Equal (sym e)
-
--- only equal CSNs tie
-pub csn_cmp-same : (a b : Csn) → csn_cmp a b ≡ Equal → a ≡ b
-csn_cmp-same a b e =
-    let one = then_equal (nat_cmp a.time b.time) _ e in
-    let two = then_equal (nat_cmp a.seq b.seq) _ one.1 in
-    let three = then_equal (nat_cmp a.rid b.rid) _ two.1 in
-    csn_by_parts a b (same_number a.time b.time one.0) (same_number a.seq b.seq two.0) (same_number a.rid b.rid three.0) (same_number a.sub b.sub three.1)
+use Rattle.repl_data.specs.Order.{csn_cmp, csn_lt, csn_le, csn_eq, zero_csn}
+use Rattle.repl_data.proofs.Orders.{csn_total, csn_exact}
 
 -- tests of an ordering
 lt_is : (o : Ordering) → is_lt o ≡ true → o ≡ Less
@@ -68,7 +40,7 @@ pub csn_lt-one_way : (a b : Csn) → csn_lt a b ≡ true → csn_lt b a ≡ fals
 csn_lt-one_way a b p = ap is_lt (csn_total.antisymm b a) ∙ one_way (csn_cmp a b) p
 
 pub csn_lt-connected : (a b : Csn) → csn_lt a b ≡ false → csn_lt b a ≡ false → a ≡ b
-csn_lt-connected a b p q = csn_cmp-same a b (both_not (csn_cmp a b) p (ap is_lt (sym (csn_total.antisymm b a)) ∙ q))
+csn_lt-connected a b p q = csn_exact a b (both_not (csn_cmp a b) p (ap is_lt (sym (csn_total.antisymm b a)) ∙ q))
 
 pub csn_le-not : (a b : Csn) → csn_le a b ≡ not (csn_lt b a)
 csn_le-not a b = le_is (csn_cmp a b) ∙ ap (λ o. not (is_lt o)) (sym (csn_total.antisymm b a))
@@ -141,7 +113,26 @@ gt_not Equal e f = refl
 gt_not Greater e f = absurd cc
 
 pub zero_from_not_gt : (c : Csn) → is_gt (csn_cmp c zero_csn) ≡ false → c ≡ zero_csn
-zero_from_not_gt c h = csn_cmp-same c zero_csn (gt_not (csn_cmp c zero_csn) (csn_lt-zero c) h)
+zero_from_not_gt c h = csn_exact c zero_csn (gt_not (csn_cmp c zero_csn) (csn_lt-zero c) h)
 
 pub not_zero_from_gt : (c : Csn) → is_gt (csn_cmp c zero_csn) ≡ true → c ≡ zero_csn → ⊥
 not_zero_from_gt c h e = let f : is_gt (csn_cmp zero_csn zero_csn) ≡ true = subst (λ z. is_gt (csn_cmp z zero_csn) ≡ true) e h in absurd cc
+
+not_eq_lt : (o : Ordering) → is_lt o ≡ true → is_eq o ≡ false
+not_eq_lt Less e = refl
+not_eq_lt Equal e = absurd cc
+not_eq_lt Greater e = refl
+
+not_eq_gt : (o : Ordering) → is_lt (ordering_reverse o) ≡ true → is_eq o ≡ false
+not_eq_gt Less e = refl
+not_eq_gt Equal e = absurd cc
+not_eq_gt Greater e = refl
+
+pub csn_eq-not_lt : (a b : Csn) → csn_lt a b ≡ true → csn_eq a b ≡ false
+csn_eq-not_lt a b e = not_eq_lt (csn_cmp a b) e
+
+pub csn_eq-not_gt : (a b : Csn) → csn_lt b a ≡ true → csn_eq a b ≡ false
+csn_eq-not_gt a b e = not_eq_gt (csn_cmp a b) (ap is_lt (sym (csn_total.antisymm b a)) ∙ e)
+
+pub csn_eq-same : (a : Csn) → csn_eq a a ≡ true
+csn_eq-same a = ap is_eq (tied_itself csn_total a)
