@@ -3,3 +3,9 @@ pub mod Stable
 pub mod StableMessage
 pub mod Sound
 pub mod SoundMessage
+pub mod Complete
+pub mod CompleteMany
+pub mod CompleteParts
+pub mod CompleteFilter
+pub mod CompleteMessage
+pub mod Rows

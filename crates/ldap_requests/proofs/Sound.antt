@@ -1,8 +1,8 @@
 -- What is read is spelled so: the parts that all operations have.
-use Rattle.std.proofs.Common.{◌≡◌, ℕ, zero, suc, ◌-◌, ◌+◌, ◌≤◌, ◌<◌, ◌%◌, ℤ, pos, negsuc, Bool, true, false, cond, eqb, ltb, List, [], ◌∷◌, ◌++◌, length, take, drop, get_or, Option, Some, None, Result, Ok, Err, refl, sym, ap, subst, ◌∙◌, append_assoc, arith, length-append, length-drop, inl, inr, ◌⊎◌}
+use Rattle.std.proofs.Common.{◌≡◌, ℕ, zero, suc, ◌-◌, ◌+◌, ◌≤◌, ◌<◌, ◌%◌, Bool, true, false, cond, ltb, List, [], ◌∷◌, ◌++◌, length, take, drop, get_or, Option, Some, None, Result, Ok, Err, refl, sym, ap, subst, ◌∙◌, append_assoc, arith, length-append, length-drop}
 use Rattle.std.proofs.lemmas.Bool.{ltb-false, eqb-true}
 use Rattle.std.proofs.lemmas.Bool.Decides.{nat_tests}
-use Rattle.std.proofs.lemmas.List.{take-append-drop, length-take-le, append-nil}
+use Rattle.std.proofs.lemmas.List.{take-append-drop, length-take-le}
 use Rattle.std.proofs.Math.Seq.{take-append-add}
 use Rattle.std.specs.Prelude.{◌==◌, ◌||◌, nat_lt, slice_get, slice_range}
 use Rattle.ber_core.specs.declared.fault.BerFault.{BerFault}
@@ -13,7 +13,6 @@ use Rattle.ber_core.specs.Element.{IsElement}
 use Rattle.ber_core.specs.Number.{integer_of, boolean_of}
 use Rattle.ber_core.specs.Reading.{header_at, header_size, least_size}
 use Rattle.ber_core.proofs.Laws.{header_takes, header_element}
-use Rattle.ldap_requests.specs.declared.fault.NotLdapWhy.{NotLdapWhy}
 use Rattle.ldap_requests.specs.declared.fault.NotLdapWhy.TheVariants as why
 use Rattle.ldap_requests.specs.Window.{Stop, Fault, More, Window, Reading, ◌>>=◌, tag_in, tag_here, inside, after, both, open_here, open_as, octets, or_shape, int, boolean, element, refused, skip_one, skip_from, skip, ended, many_from, many, optional, with_first, run_from, run}
 use Rattle.ldap_requests.specs.Spelling.{Element, Then, Given, ThenMaybe, Nothing, Each, none, next, IsSomeElement, Unknown, Octets, Integer, Boolean}
@@ -194,7 +193,7 @@ unfolding skip_one
 skip_one_sound w = ok_so (tag_here w) (λ t e. ok_so (open_here w) (λ o f. so (octets_sound o.0) (λ x c. good o.1
     (let r = opened Octets w t o x e f c in let s = r.spelled in record { front = r.front; parts = r.parts; left = r.left; at = r.at; spelled = (t, s.0, s.1) }))))
 
-element_some : (tag : ℕ) (body front : List ℕ) → IsElement front tag body → 0 < length front
+pub element_some : (tag : ℕ) (body front : List ℕ) → IsElement front tag body → 0 < length front
 element_some tag body front h = rw h.parts (omega arith)
 
 positive : (n : ℕ) → (n == 0) ≡ false → 0 < n

@@ -1,9 +1,9 @@
 -- What is read is spelled so: operations and whole messages.
-use Rattle.std.proofs.Common.{◌≡◌, ℕ, zero, suc, ◌+◌, ◌≤◌, ◌<◌, ℤ, pos, negsuc, Bool, true, false, cond, eqb, ltb, List, [], ◌∷◌, ◌++◌, length, take, Option, Some, None, Result, Ok, Err, refl, sym, ap, subst, ◌∙◌, arith, length-append}
+use Rattle.std.proofs.Common.{◌≡◌, ℕ, zero, suc, ◌+◌, ◌≤◌, ◌<◌, ℤ, pos, negsuc, Bool, true, false, cond, ltb, List, [], ◌∷◌, ◌++◌, length, take, Option, Some, None, Result, Ok, Err, refl, sym, ap, subst, ◌∙◌, arith, length-append}
 use Rattle.std.proofs.lemmas.Bool.{ltb-false, eqb-true}
 use Rattle.std.proofs.lemmas.Bool.Decides.{nat_tests}
 use Rattle.std.proofs.lemmas.List.{take_at, append-nil}
-use Rattle.std.specs.Prelude.{◌==◌, ◌||◌, ◌&&◌, nat_lt, nat_le, unwrap_or}
+use Rattle.std.specs.Prelude.{◌==◌, ◌||◌, unwrap_or}
 use Rattle.ber_core.specs.declared.fault.BerWhy.TheVariants as ber_why
 use Rattle.ber_core.specs.Element.{IsElement}
 use Rattle.ber_core.specs.Number.{integer_of}
@@ -11,7 +11,6 @@ use Rattle.ldap_types.specs.declared.request.Request.{Request}
 use Rattle.ldap_types.specs.declared.request.Control.{Control}
 use Rattle.ldap_types.specs.declared.request.Op.{Op}
 use Rattle.ldap_types.specs.declared.request.Op.TheVariants as op
-use Rattle.ldap_types.specs.declared.request.Auth.{Auth}
 use Rattle.ldap_types.specs.declared.request.Auth.TheVariants.{Simple, Sasl}
 use Rattle.ldap_types.specs.declared.request.Filter.{Filter}
 use Rattle.ldap_types.specs.declared.request.Filter.TheViews.{out-Filter, out-roll-Filter}
@@ -24,10 +23,10 @@ use Rattle.ldap_requests.specs.Cursor.{Gives}
 use Rattle.ldap_requests.specs.declared.fault.ReadFault.{ReadFault}
 use Rattle.ldap_requests.specs.declared.fault.NotLdapWhy.{NotLdapWhy}
 use Rattle.ldap_requests.specs.declared.fault.NotLdapWhy.TheVariants as why
-use Rattle.ldap_requests.specs.Window.{Stop, Fault, More, Window, Reading, ◌>>=◌, tag_here, open_here, open_as, octets, int, boolean, element, refused, skip, ended, many, optional, with_first, run_from, run}
+use Rattle.ldap_requests.specs.Window.{Stop, Fault, More, Window, Reading, tag_here, open_here, open_as, octets, int, boolean, many}
 use Rattle.ldap_requests.specs.Grammar.{text, in_range, ranged, count, message_id, attribute_inside, attribute, assertion, sasl, auth, bind_inside, unbind_inside, delete_inside, abandon_inside, add_inside, modification_inside, modification, modify_inside, rename_inside, compare_inside, extended_inside, some_piece, pieces, substrings_inside, is_filter_tag, simple_inside, filter_inside, filter_at, search_inside, is_op_tag, op_inside, operation, control_inside, control, request_inside, outermost, request_at}
-use Rattle.ldap_requests.specs.Spelling.{no_value, Element, Then, Given, ThenMaybe, Nothing, Each, none, next, Unknown, Octets, Integer, Boolean, Count, MessageId, Text, Attribute, Assertion, SaslCredentials, Authentication, Modification, PieceList, IsEmpty, Pieces, Substrings, Whatever, OneFilter, IsFilter, IsOp, IsControl, Spells}
-use Rattle.ldap_requests.proofs.Sound.{read_ok, out, Good, good, stopped, so, also, ok_so, either, value, chosen_true, Reads, MayRead, Covers, Sound, SoundInside, covers_map, before, before_maybe, opened, as_ok, element_sound, octets_sound, int_sound, boolean_sound, ended_sound, skip_sound, many_sound, inside_some, optional_sound, run_sound}
+use Rattle.ldap_requests.specs.Spelling.{no_value, Element, Then, ThenMaybe, Nothing, Each, Unknown, Octets, Integer, Boolean, Count, MessageId, Text, Attribute, Assertion, SaslCredentials, Authentication, Modification, PieceList, IsEmpty, Pieces, Substrings, Whatever, OneFilter, IsFilter, IsOp, IsControl, Spells}
+use Rattle.ldap_requests.proofs.Sound.{Good, good, stopped, so, also, ok_so, either, value, chosen_true, Reads, Covers, Sound, SoundInside, covers_map, before, before_maybe, opened, as_ok, element_sound, octets_sound, int_sound, boolean_sound, ended_sound, skip_sound, many_sound, inside_some, optional_sound, run_sound}
 
 text_sound : Sound text Text
 text_sound = element_sound 0x04 octets Octets octets_sound
@@ -148,7 +147,7 @@ extended_sound w = so (element_sound 0x80 octets Octets octets_sound w) (λ a s.
 
 -- ---- filters
 
-abbrev PiecesInside : List ℕ → List ℕ → Filter → Type 0
+abbrev pub PiecesInside : List ℕ → List ℕ → Filter → Type 0
 PiecesInside name body f = (p : PieceList) × (f ≡ filter.Substrings name p.0 p.1 p.2) × Pieces body p × (IsEmpty p → ⊥)
 
 some_sound : (w : Window) (start : ℕ) (name : List ℕ) (p : PieceList) → Covers w (λ body. Pieces body p) → Good (λ f. Covers w (λ body. PiecesInside name body f)) (some_piece start (filter.Substrings name p.0 p.1 p.2))
@@ -238,7 +237,7 @@ one_some P bytes (Filter-F.Present name) e = inside_some 0x87 Octets bytes name 
 one_some P bytes (Filter-F.Approximate name value) e = inside_some 0xa8 Assertion bytes (name, value) e
 one_some P bytes Filter-F.Extensible e = inside_some 0xa9 Whatever bytes no_value e
 
-filter_some : (depth : ℕ) (bytes : List ℕ) (f : Filter) → IsFilter depth bytes f → 0 < length bytes
+pub filter_some : (depth : ℕ) (bytes : List ℕ) (f : Filter) → IsFilter depth bytes f → 0 < length bytes
 filter_some zero bytes f e = absurd e
 filter_some (suc depth) bytes f e = one_some (IsFilter depth) bytes (out-Filter f) e
 
@@ -293,7 +292,7 @@ operation_sound w = ok_so (tag_here w) (λ t e. ok_so (cond (is_op_tag t) (open_
     let k = chosen_true (is_op_tag t) (open_here w) (Fault w.at why.Op) o f in
     so (op_sound t k.0 o.0) (λ x c. good (x, o.1) (reads_map (Element t (OpInside t)) IsOp w (x, o.1) (λ front q. q.2 front q.1) (opened (OpInside t) w t o x e k.1 c)))))
 
-abbrev ControlContent : List ℕ → Control → Type 0
+abbrev pub ControlContent : List ℕ → Control → Type 0
 ControlContent body c = (critical : Option Bool) × (c.critical ≡ unwrap_or critical false) × Then Text c.oid (ThenMaybe 0x01 Boolean critical (ThenMaybe 0x04 Octets c.value Unknown)) body
 
 control_inside_sound : SoundInside control_inside ControlContent
@@ -304,7 +303,7 @@ control_inside_sound w = so (text_sound w) (λ a s. so (optional_sound 0x01 bool
 controls_sound : SoundInside (many control) (Each IsControl)
 controls_sound = many_sound control IsControl (element_sound 0x30 control_inside ControlContent control_inside_sound) (λ front x p. inside_some 0x30 ControlContent front x p)
 
-abbrev MessageContent : List ℕ → Request → Type 0
+abbrev pub MessageContent : List ℕ → Request → Type 0
 MessageContent body r = (controls : Option (List Control)) × (r.controls ≡ unwrap_or controls []) × Then (Element 0x02 MessageId) r.id (Then IsOp r.op (ThenMaybe 0xa0 (Each IsControl) controls Unknown)) body
 
 request_inside_sound : SoundInside request_inside MessageContent

@@ -1,21 +1,18 @@
 -- Each part of a message that was answered stays, whatever bytes follow.
-use Rattle.std.proofs.Common.{◌≡◌, ℕ, zero, suc, ℤ, Bool, true, false, cond, List, [], ◌∷◌, ◌++◌, length, Option, Some, None, Result, Ok, Err, refl, sym, ap, subst, ◌∙◌, arith, length-append}
-use Rattle.std.specs.Prelude.{◌==◌, ◌||◌, unwrap_or}
+use Rattle.std.proofs.Common.{◌≡◌, ℕ, zero, suc, false, List, [], ◌∷◌, ◌++◌, length, Result, Ok, Err, refl, sym, ap, subst, ◌∙◌, arith, length-append}
+use Rattle.std.specs.Prelude.{◌==◌, unwrap_or}
 use Rattle.ber_core.specs.declared.fault.BerWhy.TheVariants as ber_why
 use Rattle.ldap_types.specs.declared.request.Request.{Request}
-use Rattle.ldap_types.specs.declared.request.Control.{Control}
-use Rattle.ldap_types.specs.declared.request.Op.{Op}
 use Rattle.ldap_types.specs.declared.request.Op.TheVariants as op
-use Rattle.ldap_types.specs.declared.request.Auth.{Auth}
 use Rattle.ldap_types.specs.declared.request.Auth.TheVariants.{Simple, Sasl}
 use Rattle.ldap_types.specs.declared.request.Filter.{Filter}
 use Rattle.ldap_types.specs.declared.request.Filter.TheVariants as filter
 use Rattle.ldap_requests.specs.declared.fault.NotLdapWhy.{NotLdapWhy}
 use Rattle.ldap_requests.specs.declared.fault.NotLdapWhy.TheVariants as why
-use Rattle.ldap_requests.specs.Window.{Stop, Fault, More, Window, Reading, ◌>>=◌, tag_here, open_as, octets, int, boolean, element, refused, skip, ended, many, optional, run}
+use Rattle.ldap_requests.specs.Window.{Stop, Fault, Window, Reading, ◌>>=◌, octets, int, boolean, many}
 use Rattle.ldap_requests.specs.Grammar.{text, in_range, ranged, count, message_id, attribute_inside, attribute, assertion, sasl, auth, bind_inside, unbind_inside, delete_inside, abandon_inside, add_inside, modification_inside, modification, modify_inside, rename_inside, compare_inside, extended_inside, some_piece, pieces, substrings_inside, is_filter_tag, simple_inside, filter_inside, filter_at, search_inside, is_op_tag, op_inside, operation, control_inside, control, request_inside, outermost, request_at}
 use Rattle.ldap_requests.specs.Laws.{StaysRead, StaysAtFault, NoneIsPrefix}
-use Rattle.ldap_requests.proofs.Stable.{Keeps, kept, more_yet, at_fault, with_more, Grows, Equal, Same, BothGrow, Stays, StaysInside, self, and_then, choose, tag_stays, open_stays, refused_stays, open_as_stays, elements_stay, element_stays, octets_stays, int_stays, boolean_stays, skip_stays, ended_stays, many_stays, optional_stays, run_stays}
+use Rattle.ldap_requests.proofs.Stable.{Keeps, kept, more_yet, at_fault, with_more, Grows, Equal, Stays, StaysInside, self, and_then, choose, tag_stays, open_stays, refused_stays, open_as_stays, elements_stay, element_stays, octets_stays, int_stays, boolean_stays, skip_stays, ended_stays, many_stays, optional_stays, run_stays}
 
 -- a value read by an inner reader, as the answer
 only : {A B : Type 0} {r s : Result A Stop} (f : A → B) → Keeps Equal r s → Keeps Equal (r >>= λ x. Ok (f x)) (s >>= λ x. Ok (f x))

@@ -1,13 +1,11 @@
 -- Requests, read element by element from the front (RFC 4511, section 4).
-use Rattle.std.specs.Prelude.{◌≡◌, ℕ, zero, suc, ◌+◌, ◌-◌, ◌<◌, ◌≤◌, ◌^◌, ℤ, pos, negsuc, ◌==◌, ◌||◌, ◌&&◌, nat_lt, nat_le, List, [], ◌∷◌, ◌++◌, length, take, drop, Option, Some, None, Bool, true, false, unwrap_or, Result, Ok, Err, if◌then◌else◌}
+use Rattle.std.specs.Prelude.{ℕ, zero, suc, ℤ, pos, negsuc, ◌==◌, ◌||◌, ◌&&◌, nat_lt, nat_le, List, [], Option, Some, None, Bool, false, unwrap_or, Result, Ok, Err, if◌then◌else◌}
 use Rattle.ldap_types.specs.declared.request.Request.{Request}
 use Rattle.ldap_types.specs.declared.request.Control.{Control}
 use Rattle.ldap_types.specs.declared.request.Op.{Op}
 use Rattle.ldap_types.specs.declared.request.Op.TheVariants as op
-use Rattle.ldap_types.specs.declared.request.BindRequest.{BindRequest}
 use Rattle.ldap_types.specs.declared.request.Auth.{Auth}
 use Rattle.ldap_types.specs.declared.request.Auth.TheVariants.{Simple, Sasl}
-use Rattle.ldap_types.specs.declared.request.SearchRequest.{SearchRequest}
 use Rattle.ldap_types.specs.declared.request.Filter.{Filter}
 use Rattle.ldap_types.specs.declared.request.Filter.TheVariants as filter
 use Rattle.ldap_types.specs.declared.request.RawAttr.{RawAttr}

@@ -1,7 +1,7 @@
 -- Which bytes spell which request, in the standard's words (RFC 4511, section 4 and appendix B). A
 -- request has many spellings: lengths and integers may be longer than needed, and elements that
 -- nobody knows may follow where it is said here.
-use Rattle.std.specs.Prelude.{◌≡◌, ◌≢◌, ℕ, zero, suc, ◌≤◌, ◌<◌, ◌⊎◌, ℤ, pos, List, [], ◌∷◌, ◌++◌, length, Option, Some, None, Bool, false, unwrap_or, slice_get}
+use Rattle.std.specs.Prelude.{◌≡◌, ◌≢◌, ℕ, zero, suc, ◌≤◌, ℤ, pos, List, [], ◌∷◌, ◌++◌, Option, Some, None, Bool, false, unwrap_or, slice_get}
 use Rattle.ber_core.specs.Element.{IsElement}
 use Rattle.ber_core.specs.Number.{integer_of, boolean_of}
 use Rattle.ldap_types.specs.declared.request.Request.{Request}

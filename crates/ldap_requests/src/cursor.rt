@@ -5,7 +5,7 @@ use ber_core::{BerFault, BerWhy, Header, read_bool, read_header, read_int};
 
 /// A place inside an element, of bytes that may go on.
 #[derive(Clone, Copy)]
-pub(crate) struct Cursor<'a> {
+pub struct Cursor<'a> {
     pub start: usize,
     pub at: usize,
     pub left: usize,
@@ -19,7 +19,7 @@ impl<'a> Cursor<'a> {
 
     /// The tag of the element that must stand here.
     #[tactic(auto, unfolding(crate::specs::Window::tag_in))]
-    pub(crate) fn tag(self) -> Result<u8, ReadFault>
+    pub fn tag(self) -> Result<u8, ReadFault>
         ensures { Gives (λ t. t) result (tag_here (window self.entry)) }
     {
         if self.left == 0 {
@@ -66,7 +66,7 @@ impl<'a> Cursor<'a> {
 
     /// The element here has this tag.
     #[tactic(auto, unfolding(crate::specs::Window::open_as))]
-    pub(crate) fn open_as(self, tag: u8) -> Result<(Cursor<'a>, Cursor<'a>), ReadFault>
+    pub fn open_as(self, tag: u8) -> Result<(Cursor<'a>, Cursor<'a>), ReadFault>
         ensures { Gives pair result (open_as tag (window self.entry)) }
     {
         if self.tag()? == tag {
@@ -81,7 +81,7 @@ impl<'a> Cursor<'a> {
 
     /// All of the content, once it has come.
     #[tactic(auto, unfolding(crate::specs::Window::octets))]
-    pub(crate) fn octets(self) -> Result<&'a [u8], ReadFault>
+    pub fn octets(self) -> Result<&'a [u8], ReadFault>
         ensures { Gives (λ b. b.now) result (octets (window self.entry)) }
     {
         if self.bytes.len() < self.left {
@@ -92,7 +92,7 @@ impl<'a> Cursor<'a> {
     }
 
     #[tactic(auto, unfolding(crate::specs::Window::int))]
-    pub(crate) fn int(self) -> Result<i64, ReadFault>
+    pub fn int(self) -> Result<i64, ReadFault>
         ensures { Gives (λ z. z) result (int (window self.entry)) }
     {
         if self.left == 0 || self.left > 8 {

@@ -8,6 +8,8 @@ mod message;
 mod operation;
 mod parts;
 
+pub use cursor::Cursor;
 pub use fault::{NotLdapWhy, ReadFault};
 pub use filter::FILTER_DEPTH;
 pub use message::{MESSAGE_LIMIT, read_request, request_laws};
+pub use parts::ended;

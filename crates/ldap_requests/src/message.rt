@@ -1,7 +1,7 @@
-ghost use Rattle.std.specs.Prelude.{◌≡◌, ◌≤◌, length, take, IfOk};
+ghost use Rattle.std.specs.Prelude.{◌≡◌, ◌≤◌, ◌⊎◌, ◌++◌, List, ℕ, Ok, Err, length, take, IfOk};
 ghost use Rattle.ldap_requests.specs.Cursor.{Gives, pair, window, with_window};
 ghost use Rattle.ldap_requests.specs.Grammar.{message_id, control_inside, control, request_inside, request_at, outermost};
-ghost use Rattle.ldap_requests.specs.Laws.{StaysRead, StaysAtFault, NoneIsPrefix};
+ghost use Rattle.ldap_requests.specs.Laws.{StaysRead, StaysAtFault, NoneIsPrefix, EverySpellingIsRead, OneRequest, NoSpellingIsPrefix, HasNoRequest, BeginsNoRequest};
 ghost use Rattle.ldap_requests.specs.Spelling.{Spells};
 ghost use Rattle.ldap_requests.specs.Window.{open_as, many, optional};
 
@@ -151,6 +151,16 @@ pub fn read_request(alloc: Global, input: &[u8]) -> Result<(Request, usize), Rea
     ensures found { IfOk result (λ r. Spells (take r.1 input.now) r.0) }
     ensures within { IfOk result (λ r. (r.1 ≤ length input.now) × (r.1 ≤ 2097152)) }
 
+    // Every spelling of a request is read as that request, whatever follows it, unless memory runs out.
+    ensures only { (bytes rest : List ℕ) (r : Request) → Spells bytes r → length bytes ≤ 2097152
+        → input.now ≡ bytes ++ rest
+        → (result ≡ Ok (r, length bytes)) ⊎ (result ≡ Err ReadFault.NoMemory) }
+
+    // More: none stands at the front yet. NotLdap: none does, however the bytes go on.
+    ensures more { result ≡ Err ReadFault.More → HasNoRequest 2097152 input.now }
+    ensures bad { (place : ℕ) (why : NotLdapWhy) → result ≡ Err (ReadFault.NotLdap place why)
+        → BeginsNoRequest 2097152 input.now }
+
     // Which answer it is, by reading element by element from the front: a request with its size, More,
     // or the first fault, with its place and reason.
     ensures exact { Gives (λ r. r) result (request_at 2097152 input.now) }
@@ -161,10 +171,17 @@ pub fn read_request(alloc: Global, input: &[u8]) -> Result<(Request, usize), Rea
 /// No later byte changes what was read: a request stays the request, of the same size, and a fault the
 /// fault, with its place and reason. So bytes are read as one request at most, and none is a proper
 /// prefix of another.
+///
+/// Every spelling of a request (RFC 4511, section 4) is read, so bytes spell one request at most, and
+/// no spelling is a proper prefix of another.
 pub fn request_laws()
     ensures request_stays { StaysRead }
     ensures fault_stays { StaysAtFault }
     ensures no_prefix { NoneIsPrefix }
+
+    ensures spelling_read { EverySpellingIsRead }
+    ensures one_request { OneRequest }
+    ensures no_spelling_is_prefix { NoSpellingIsPrefix }
 {}
 
 #[cfg(test)]

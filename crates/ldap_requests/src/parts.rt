@@ -18,7 +18,7 @@ pub(crate) fn text(alloc: Global, w: Cursor) -> Result<(Bytes, Cursor), ReadFaul
 }
 
 #[tactic(auto, unfolding(crate::specs::Window::ended))]
-pub(crate) fn ended(w: Cursor) -> Result<(), ReadFault>
+pub fn ended(w: Cursor) -> Result<(), ReadFault>
     ensures { Gives (λ u. u) result (ended (window w.entry)) }
 {
     if w.left == 0 {
