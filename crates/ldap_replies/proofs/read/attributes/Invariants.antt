@@ -1,0 +1,9 @@
+use Rattle.std.proofs.Common.{◌≡◌, ◌-◌}
+use Rattle.ldap_requests.specs.Cursor.{window}
+use Rattle.ldap_replies.specs.Grammar.{attribute}
+use Rattle.ldap_requests.specs.Window.{many_from}
+use Rattle.ldap_requests.proofs.Loops.{with_front}
+use Rattle.ldap_replies.proofs.read.attributes.Given as goal
+
+abbrev pub invariant-loop : goal.invariant-loop
+invariant-loop l = with_front l.all (many_from attribute (l.w.left - l.counter) (window l.here)) ≡ many_from attribute l.w.left (window l.w)

@@ -1,0 +1,14 @@
+//! Replies of servers, written and read back (RFC 4511, sections 4 and 5.1).
+#![tactic(auto)]
+
+mod piece;
+mod read;
+mod write;
+
+pub use ldap_requests::{MESSAGE_LIMIT, NotLdapWhy, ReadFault};
+pub use ldap_types::{Bytes, NoMemory, Reply};
+pub use read::{read_reply, reply_laws};
+pub use write::write_reply;
+
+#[cfg(test)]
+mod tests;
