@@ -98,7 +98,7 @@ options-whole front rest h b = ap (λ (n : ℕ). drop n (front ++ rest)) (base_l
 -- ---- the table
 
 -- the type that is found passes what all types pass
-found-passes : (p q : AttrType → Bool) (ts : List AttrType) (t : AttrType) → find p ts ≡ Some t → list_all q ts ≡ true → q t ≡ true
+pub found-passes : (p q : AttrType → Bool) (ts : List AttrType) (t : AttrType) → find p ts ≡ Some t → list_all q ts ≡ true → q t ≡ true
 found-passes p q [] t e h = cc
 found-passes p q (u ∷ us) t e h = at (p u) e (λ f. found-passes p q us t f (and-right (q u) _ h))
   where

@@ -1,16 +1,11 @@
 -- Texts of ASCII, and what the tests for texts say.
-use Rattle.std.proofs.Common.{◌≡◌, ℕ, zero, suc, IfNone, ◌<◌, ◌≤◌, Bool, true, false, not, nat_lt, nat_le, cond, List, [], ◌∷◌, length, map, position, encode_utf8_all, IsUtf8, IsAscii, Option, Some, None, refl, sym, ap, ◌∙◌, arith}
+use Rattle.std.proofs.Common.{◌≡◌, ℕ, IfNone, ◌<◌, ◌≤◌, Bool, true, false, not, nat_lt, nat_le, cond, List, length, position, IsUtf8, IsAscii, Option, Some, None, refl, sym, ap, ◌∙◌, arith}
 use Rattle.std.proofs.lemmas.Bool.Decides.{nat_tests}
 use Rattle.std.proofs.lemmas.List.Sums.{prefix_len_passes}
-use Rattle.std.proofs.lemmas.Str.{chars-IsAscii, encodes-IsAscii, is_utf8-from_IsUtf8, IsUtf8-from_is_utf8}
-use Rattle.std.proofs.lemmas.Str.Ascii.{All-from_ascii, IsAscii-from_reads}
-use Rattle.std.specs.Char.{to_ascii_lowercase}
+use Rattle.std.proofs.lemmas.Str.{is_utf8-from_IsUtf8, IsUtf8-from_is_utf8}
+use Rattle.std.proofs.lemmas.Str.Ascii.{IsAscii-from_reads}
 use Rattle.std.specs.List.{position_or_len}
 use Rattle.std.specs.Str.{is_utf8}
-use Rattle.caseless.specs.Caseless.{default_case_fold}
-use Rattle.caseless.proofs.CaselessLemmas.{default_case_fold-ascii}
-use Rattle.unicode_normalization.specs.Forms.{nfkc, Nfkc}
-use Rattle.unicode_normalization.proofs.FormsLemmas.{normalize-ascii}
 use Rattle.repl_data.specs.Key.{text_key}
 use Rattle.attr_keys.specs.declared.kind.Kind.TheVariants.{Dir}
 use Rattle.attr_keys.specs.Value.{value_key, prepared, bad_text, bad_unless, has_text, utf8_fault}

@@ -1,21 +1,28 @@
-ghost use Rattle.std.specs.Prelude.{◌≡◌, ℕ, List};
+ghost use Rattle.std.specs.Prelude.{◌≡◌, ℕ, List, None};
 ghost use Rattle.attr_keys.specs.declared.kind.Kind.{Kind};
+ghost use Rattle.attr_keys.specs.Name.{bad_name};
 ghost use Rattle.attr_keys.specs.Table.{key_of};
-ghost use Rattle.attr_keys.specs.Value.{value_key};
 ghost use Rattle.repl_data.specs.Key.{text_key};
+ghost use Rattle.attr_keys.specs.Value.{bad_value, value_key};
 ghost use Rattle.attr_keys.specs.Laws.{AreEqualNames, AreEqualValues};
 
 /// What the keys of names and values are to one another.
 ///
-/// A key is the key of its own text for names, integers, phone numbers and bytes. For text it need
-/// not be: a bold capital A has no other case, so folding leaves it, and normalizing makes it an A,
+/// A key is the key of its own text for names, ASCII text, integers, phone numbers and bytes. For other
+/// text it need not be: a bold capital A has no other case, so folding leaves it, and normalizing makes it an A,
 /// of which the key is a. And a space of no break alone has the empty key, which is no value.
 pub fn key_laws()
     ensures name_again { (name : List ℕ) → key_of (key_of name) ≡ key_of name }
+
+    // The key of an attribute name is an attribute name.
+    ensures name_key { (name : List ℕ) → bad_name name ≡ None → bad_name (key_of name) ≡ None }
+
     ensures integer_again { (value : List ℕ) →
         value_key Kind.Int (value_key Kind.Int value) ≡ value_key Kind.Int value }
     ensures phone_again { (value : List ℕ) →
         value_key Kind.Tel (value_key Kind.Tel value) ≡ value_key Kind.Tel value }
+    ensures ascii_again { (value : List ℕ) → bad_value Kind.Ia5 value ≡ None →
+        value_key Kind.Ia5 (value_key Kind.Ia5 value) ≡ value_key Kind.Ia5 value }
     ensures bytes_again { (value : List ℕ) →
         value_key Kind.Oct (value_key Kind.Oct value) ≡ value_key Kind.Oct value }
 

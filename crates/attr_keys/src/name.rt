@@ -111,7 +111,8 @@ fn may_end(state: NameState) -> bool
 
 /// The first byte that no attribute name has there, or the length if the name ends too early.
 fn bad_place(name: &[u8]) -> Option<usize>
-    ensures { result ≡ bad_name name.now }
+    ensures value { result ≡ bad_name name.now }
+    ensures within { IfSome result (λ place. place ≤ length name.now) }
 {
     let mut state = NameState::Start;
     for (at, b) in name.iter().enumerate() {
@@ -177,6 +178,7 @@ pub fn attr_key(alloc: Global, name: &[u8]) -> Result<AttrKey, KeyFault>
     // BadName comes exactly for what is no name, with the place at fault.
     ensures bad { (place : ℕ) → (result ≡ Err (KeyFault.BadName place)) ↔ (bad_name name.now ≡ Some place) }
     ensures value { (place : ℕ) → result ≢ Err (KeyFault.BadValue place) }
+    ensures within { (place : ℕ) → result ≡ Err (KeyFault.BadName place) → place ≤ length name.now }
 {
     if let Some(place) = bad_place(name) {
         return Err(KeyFault::BadName { place });

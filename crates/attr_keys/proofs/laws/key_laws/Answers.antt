@@ -1,6 +1,8 @@
 use Rattle.attr_keys.proofs.Again.{int-again, tel-again, oct-again}
+use Rattle.attr_keys.proofs.NameKeys.{key_of-good}
 use Rattle.attr_keys.proofs.NamesAgain.{key_of-again}
 use Rattle.attr_keys.proofs.Texts.{value_key-text}
+use Rattle.attr_keys.proofs.TextsAgain.{ia5-again}
 use Rattle.attr_keys.proofs.laws.key_laws.Goals as goal
 
 pub returns-clause-name_again : goal.returns-clause-name_again
@@ -17,3 +19,9 @@ returns-clause-bytes_again c = oct-again
 
 pub returns-clause-text : goal.returns-clause-text
 returns-clause-text c = value_key-text
+
+pub returns-clause-name_key : goal.returns-clause-name_key
+returns-clause-name_key c = key_of-good
+
+pub returns-clause-ascii_again : goal.returns-clause-ascii_again
+returns-clause-ascii_again c = ia5-again

@@ -1,0 +1,14 @@
+pub mod Found
+pub mod Keys
+pub mod Parts
+pub mod Pieces
+pub mod Printed
+pub mod Prints
+pub mod Reread
+pub mod Rising
+pub mod RoundTrip
+pub mod Rows
+pub mod Same
+pub mod Spelled
+pub mod Splits
+pub mod Values

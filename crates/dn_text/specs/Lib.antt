@@ -1,0 +1,9 @@
+pub mod Fault
+pub mod Spelling
+pub mod Split
+pub mod Escape
+pub mod Laws
+pub mod Print
+pub mod Suffix
+pub mod Below
+pub mod Reading
