@@ -1,0 +1,74 @@
+-- Questions to a view, answered by loops over its entries.
+use Rattle.std.proofs.Common.{◌≡◌, ℕ, ◌+◌, ◌<◌, Bool, true, false, cond, List, [], ◌∷◌, ◌++◌, map, length, get_or, take, Some, refl, ap, sym, ◌∙◌}
+use Rattle.std.specs.Prelude.{filter, find, reverse, ◌&&◌, not, if◌then◌else◌}
+use Rattle.std.proofs.lemmas.List.{take_more, reverse-append}
+use Rattle.std.proofs.lemmas.Grind.{reverse_onto}
+use Rattle.std.specs.declared.cmp.Ordering.{Ordering}
+use Rattle.repl_data.specs.declared.csn.Uid.{Uid}
+use Rattle.repl_data.specs.declared.change.Rdn.{Rdn}
+use Rattle.repl_data.specs.Order.{put_by, in_order_by, by_order, uid_eq, suffix_id}
+use Rattle.repl_data.specs.View.{PresentEntry, path_among}
+use Rattle.plain_view.proofs.Loops.{filter_append, map_append}
+
+module _ {X : Type 0} where
+  -- the first of those that pass one test to pass another
+  pub find_filter : (p q : X → Bool) (xs : List X) → find q (filter p xs) ≡ find (λ x. p x && q x) xs
+  find_filter p q [] = refl
+  find_filter p q (x ∷ xs) = by (p x) (find_filter p q xs)
+    where
+      by : (b : Bool) → find q (filter p xs) ≡ find (λ x. p x && q x) xs → find q (cond b (x ∷ filter p xs) (filter p xs)) ≡ cond (b && q x) (Some x) (find (λ x. p x && q x) xs)
+      by true e = ap (λ r. cond (q x) (Some x) r) e
+      by false e = e
+
+  -- equal orders sort alike
+  pub in_order_same : (R S : X → X → Ordering) → ((a b : X) → R a b ≡ S a b) → (xs : List X) → in_order_by (λ x. x) R xs ≡ in_order_by (λ x. x) S xs
+  in_order_same R S h xs = λ i. in_order_by (λ x. x) (λ a b. h a b i) xs
+
+module _ {X Y K : Type 0} (key : Y → K) (cmp : K → K → Ordering) (g : X → Y) where
+  put_by_map : (x : X) (ys : List X) → map g (put_by (λ x. key (g x)) cmp x ys) ≡ put_by key cmp (g x) (map g ys)
+  put_by_map x [] = refl
+  put_by_map x (y ∷ ys) = by (cmp (key (g x)) (key (g y))) ∙ ap (λ r. by_order (cmp (key (g x)) (key (g y))) (g x ∷ g y ∷ map g ys) (g x ∷ map g ys) (g y ∷ r)) (put_by_map x ys)
+    where
+      by : (o : Ordering) → map g (by_order o (x ∷ y ∷ ys) (x ∷ ys) (y ∷ put_by (λ x. key (g x)) cmp x ys)) ≡ by_order o (g x ∷ g y ∷ map g ys) (g x ∷ map g ys) (g y ∷ map g (put_by (λ x. key (g x)) cmp x ys))
+      by Ordering.Less = refl
+      by Ordering.Equal = refl
+      by Ordering.Greater = refl
+
+  pub in_order_map : (xs : List X) → map g (in_order_by (λ x. key (g x)) cmp xs) ≡ in_order_by key cmp (map g xs)
+  in_order_map [] = refl
+  in_order_map (x ∷ xs) = put_by_map x (in_order_by (λ x. key (g x)) cmp xs) ∙ ap (put_by key cmp (g x)) (in_order_map xs)
+
+module _ {X Y Z : Type 0} where
+  pub map_map : (f : Y → Z) (g : X → Y) (xs : List X) → map f (map g xs) ≡ map (λ x. f (g x)) xs
+  map_map f g [] = refl
+  map_map f g (x ∷ xs) = ap (λ r. f (g x) ∷ r) (map_map f g xs)
+
+module _ {X Y : Type 0} where
+  pub map_filter_more : (g : X → Y) (p : X → Bool) (xs : List X) (i : ℕ) (d : X) → i < length xs → map g (filter p (take (i + 1) xs)) ≡ map g (filter p (take i xs)) ++ cond (p (get_or xs i d)) (g (get_or xs i d) ∷ []) []
+  map_filter_more g p xs i d l =
+      ap (λ r. map g (filter p r)) (take_more xs i d l)
+      ∙ ap (map g) (filter_append p (take i xs) (get_or xs i d ∷ []))
+      ∙ map_append g (filter p (take i xs)) (cond (p (get_or xs i d)) (get_or xs i d ∷ []) [])
+      ∙ ap (λ r. map g (filter p (take i xs)) ++ r) (by (p (get_or xs i d)))
+    where
+      by : (b : Bool) → map g (cond b (get_or xs i d ∷ []) []) ≡ cond b (g (get_or xs i d) ∷ []) []
+      by true = refl
+      by false = refl
+
+  pub reverse_map : (f : X → Y) (xs : List X) → reverse (map f xs) ≡ map f (reverse xs)
+  reverse_map f [] = refl
+  reverse_map f (x ∷ xs) =
+      reverse_onto (map f xs) (f x) []
+      ∙ ap (λ r. r ++ f x ∷ []) (reverse_map f xs)
+      ∙ sym (map_append f (reverse xs) (x ∷ []))
+      ∙ ap (map f) (sym (reverse_onto xs x []))
+
+-- one step up from an entry
+abbrev pub step_names : PresentEntry → Uid → List Rdn
+step_names e up = if uid_eq e.id up && not (uid_eq up suffix_id) then e.shown ∷ [] else []
+
+abbrev pub step_up : PresentEntry → Uid → Uid
+step_up e up = if uid_eq e.id up then e.parent else up
+
+pub path_more : (xs : List PresentEntry) (n : ℕ) (up : Uid) (d : PresentEntry) → n < length xs → path_among (reverse (take (n + 1) xs)) up ≡ step_names (get_or xs n d) up ++ path_among (reverse (take n xs)) (step_up (get_or xs n d) up)
+path_more xs n up d l = ap (λ r. path_among (reverse r) up) (take_more xs n d l) ∙ ap (λ r. path_among r up) (reverse-append (take n xs) (get_or xs n d ∷ []))

@@ -1,0 +1,8 @@
+use Rattle.std.proofs.Common.{◌≡◌, map, take}
+use Rattle.std.specs.Prelude.{flat_map}
+use Rattle.repl_data.specs.Facts.{deletions}
+use Rattle.plain_view.specs.Seen.{act_of}
+use Rattle.plain_view.proofs.facts.deletions.Given as goal
+
+abbrev pub invariant-loop-act : goal.invariant-loop-act
+invariant-loop-act l = l.stamps ≡ flat_map (deletions l.key) (map act_of (take l.act-index l.acts))
