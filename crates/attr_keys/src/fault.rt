@@ -1,3 +1,6 @@
+ghost use Rattle.std.specs.Prelude.{◌≡◌};
+ghost use Rattle.attr_keys.specs.declared.fault.KeyFault.TheVariants as fault;
+
 use repl_data::NoMemory;
 
 /// Why there is no key.
@@ -14,6 +17,8 @@ pub enum KeyFault {
 }
 
 impl From<NoMemory> for KeyFault {
+    ghost from_gives = { λ _ e. e ≡ fault.NoMemory };
+
     fn from(_error: NoMemory) -> KeyFault {
         KeyFault::NoMemory
     }
