@@ -1,0 +1,37 @@
+ghost use Rattle.std.specs.Prelude.{◌≡◌, List, ℕ, Option, OnOk, OnErr, IfOk};
+ghost use Rattle.keeper_core.specs.Causes.{HasCause, Leaves, Reads};
+ghost use Rattle.keeper_core.specs.declared.row.Row.{Row};
+
+use crate::row::{Batch, RowList};
+use std::alloc::Global;
+
+/// Why a keeper did not do what it was asked for.
+#[derive(Clone, Copy, Debug, Drop, Eq, PartialEq)]
+pub enum KeepFault {
+    /// No memory was left.
+    NoMemory,
+    /// The keeper failed, as where a disk does.
+    Failed,
+}
+
+/// Where rows are kept.
+pub trait Keeper {
+    /// The rows, in rising order of key, where they are known.
+    ghost rows: { Self → Option (List Row) };
+
+    /// How many faults there were. The count stands still at `u64::MAX`.
+    ghost faults: { Self → ℕ };
+
+    /// Takes the steps of the batch one after the other: all of them, or none where the answer is
+    /// not Ok.
+    fn put_batch(&mut self, alloc: Global, batch: &Batch) -> Result<(), KeepFault>
+        ensures ok { OnOk result (Leaves (rows self.old) (rows self.new) batch.now) }
+        ensures err { OnErr result (rows self.new ≡ rows self.old) }
+        ensures cause { HasCause (faults self.old) (faults self.new) result };
+
+    /// A copy of all rows, in rising order of key.
+    fn read_all(&mut self, alloc: Global) -> Result<RowList, KeepFault>
+        ensures ok { IfOk result (Reads (rows self.old)) }
+        ensures kept { rows self.new ≡ rows self.old }
+        ensures cause { HasCause (faults self.old) (faults self.new) result };
+}
