@@ -1,0 +1,7 @@
+pub mod Loops
+pub mod Places
+pub mod Raising
+pub mod Keeps
+pub mod Taken
+pub mod Same
+pub mod Next

@@ -1,0 +1,4 @@
+pub mod Ordered
+pub mod Raised
+pub mod Shown
+pub mod History

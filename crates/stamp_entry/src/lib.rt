@@ -1,0 +1,14 @@
+//! One entry as its changes leave it: what is known of its name, its death and each of its values,
+//! with the stamps that decide between changes that come in any order.
+#![tactic(auto)]
+
+mod entry;
+mod laws;
+mod raise;
+mod shown;
+mod sorted;
+#[cfg(test)]
+mod tests;
+
+pub use entry::{StampedAttr, StampedAttrList, StampedEntry, StampedVal, StampedValList};
+pub use laws::stamped_laws;

@@ -1,0 +1,139 @@
+ghost use Rattle.std.specs.Prelude.{IfOk};
+ghost use Rattle.stamp_entry.specs.Ordered.{IsOrdered};
+
+use crate::StampedEntry;
+use repl_data::{
+    Attr, AttrKey, AttrList, Ava, Body, Bytes, Change, Csn, Items, NoMemory, Rdn, ShownList, Uid,
+    Val, ValList, check,
+};
+use std::alloc::Global;
+use std::test::Fail;
+
+/// The first CSN of a replica at a time.
+fn at(time: u32, rid: u16) -> Csn {
+    Csn {
+        time,
+        seq: 0,
+        rid,
+        sub: 0,
+    }
+}
+
+fn text(alloc: Global, bytes: &[u8]) -> Result<Bytes, NoMemory> {
+    Bytes::from_slice(alloc, bytes)
+}
+
+fn key(alloc: Global, name: &[u8]) -> Result<AttrKey, NoMemory> {
+    Ok(AttrKey {
+        name: text(alloc, name)?,
+    })
+}
+
+fn val(alloc: Global, bytes: &[u8]) -> Result<Val, NoMemory> {
+    Ok(Val {
+        key: text(alloc, bytes)?,
+        spelled: text(alloc, bytes)?,
+    })
+}
+
+/// Values, spelled with a comma between each two. None for no text.
+fn vals(alloc: Global, texts: &[u8]) -> Result<ValList, NoMemory> {
+    let mut vals = Items::new(alloc);
+    if texts.is_empty() {
+        return Ok(vals);
+    }
+    for part in texts.split(|b| *b == b',') {
+        vals.push(val(alloc, part)?)?;
+    }
+    Ok(vals)
+}
+
+fn rdn(alloc: Global, name: &[u8], bytes: &[u8]) -> Result<Rdn, NoMemory> {
+    let mut avas = Items::new(alloc);
+    avas.push(Ava {
+        attr: key(alloc, name)?,
+        val: val(alloc, bytes)?,
+    })?;
+    Ok(Rdn { avas })
+}
+
+/// An entry `cn=a` below the suffix.
+fn add_person(alloc: Global, csn: Csn) -> Result<Change, NoMemory> {
+    let mut attrs: AttrList = Items::new(alloc);
+    attrs.push(Attr {
+        attr: key(alloc, b"cn".as_slice())?,
+        vals: vals(alloc, b"a,b".as_slice())?,
+    })?;
+    Ok(Change {
+        csn,
+        target: Uid { csn },
+        body: Body::Add {
+            parent: Uid::SUFFIX,
+            rdn: rdn(alloc, b"cn".as_slice(), b"a".as_slice())?,
+            attrs,
+        },
+    })
+}
+
+/// One line for each value that shows.
+fn printed(alloc: Global, shown: &ShownList) -> Result<Bytes, NoMemory> {
+    let mut out = Bytes::new(alloc);
+    for a in shown.as_slice() {
+        for v in a.vals.as_slice() {
+            out.extend_from_slice(a.attr.name.as_slice())?;
+            out.extend_from_slice(b"=".as_slice())?;
+            out.extend_from_slice(v.spelled.as_slice())?;
+            out.push(b'\n')?;
+        }
+    }
+    Ok(out)
+}
+
+/// The entry after one change more.
+fn after(alloc: Global, e: &StampedEntry, change: &Change) -> Result<StampedEntry, Fail>
+    requires { IsOrdered e.now }
+    ensures { IfOk result IsOrdered }
+{
+    check(change)?;
+    if change.target != e.id {
+        return Err(Fail::new("a change of another entry"));
+    }
+    let next = e.applied(alloc, change)?;
+    Ok(next)
+}
+
+fn added(alloc: Global, change: &Change) -> Result<StampedEntry, Fail>
+    ensures { IfOk result IsOrdered }
+{
+    check(change)?;
+    match &change.body {
+        Body::Add { .. } => {
+            let e = StampedEntry::added(alloc, change)?;
+            Ok(e)
+        }
+        _ => Err(Fail::new("no Add")),
+    }
+}
+
+/// The delete of an entry.
+fn delete(csn: Csn, target: Uid) -> Change {
+    Change {
+        csn,
+        target,
+        body: Body::Del,
+    }
+}
+
+#[test]
+fn a_deleted_entry_is_not_live(rt: HostRuntime) -> Result<(), Fail> {
+    let alloc = rt.alloc();
+    let e = added(alloc, &add_person(alloc, at(100, 1))?)?;
+    assert!(rt; e.is_live());
+    let gone = after(alloc, &e, &delete(at(101, 2), e.id))?;
+    assert!(rt; !gone.is_live());
+    let (_, csn) = gone.name();
+    assert_eq!(rt; csn, at(100, 1));
+    let text = printed(alloc, &gone.shown(alloc)?)?;
+    assert_eq!(rt; text.as_slice(), b"cn=a\ncn=b\n".as_slice());
+    Ok(())
+}
