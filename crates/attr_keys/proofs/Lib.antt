@@ -6,3 +6,6 @@ pub mod Places
 pub mod Rows
 pub mod Texts
 pub mod TextsAgain
+pub mod SpaceStays
+pub mod ScalarStays
+pub mod ExactAgain

@@ -19,7 +19,7 @@ tight after [] = true
 tight after (b ∷ bs) = not (after && (b == 32)) && tight (b == 32) bs
 
 -- without a space at the end
-abbrev drop_last : List ℕ → List ℕ
+abbrev pub drop_last : List ℕ → List ℕ
 drop_last [] = []
 drop_last (b ∷ []) = cond (b == 32) [] (b ∷ [])
 drop_last (b ∷ c ∷ bs) = b ∷ drop_last (c ∷ bs)
@@ -28,11 +28,11 @@ cases : {P : Type 0} (b : Bool) → (b ≡ true → P) → (b ≡ false → P) �
 cases true f g = f refl
 cases false f g = g refl
 
-and-left : (a b : Bool) → (a && b) ≡ true → a ≡ true
+pub and-left : (a b : Bool) → (a && b) ≡ true → a ≡ true
 and-left true b h = refl
 and-left false b h = h
 
-and-right : (a b : Bool) → (a && b) ≡ true → b ≡ true
+pub and-right : (a b : Bool) → (a && b) ≡ true → b ≡ true
 and-right true b h = h
 and-right false b h = cc
 
@@ -65,7 +65,7 @@ by_last-cons b c bs n = at (slice_index (c ∷ bs) n == 32)
     at true = refl
     at false = refl
 
-last-dropped : (xs : List ℕ) → without_last_space xs ≡ drop_last xs
+pub last-dropped : (xs : List ℕ) → without_last_space xs ≡ drop_last xs
 last-dropped [] = refl
 last-dropped (b ∷ []) = refl
 last-dropped (b ∷ c ∷ bs) =
@@ -106,7 +106,7 @@ dropped-again after (b ∷ c ∷ d ∷ ds) h =
     ap (λ (xs : List ℕ). b ∷ xs) (dropped-again (b == 32) (c ∷ d ∷ ds) (and-right (not (after && (b == 32))) (tight (b == 32) (c ∷ d ∷ ds)) h))
 
 -- trimmed once, trimmed for good
-trimmed-again : (xs : List ℕ) → trimmed (trimmed xs) ≡ trimmed xs
+pub trimmed-again : (xs : List ℕ) → trimmed (trimmed xs) ≡ trimmed xs
 trimmed-again xs =
     let ys : List ℕ = squeezed true xs in
     let one : trimmed xs ≡ drop_last ys = last-dropped ys in
@@ -115,7 +115,7 @@ trimmed-again xs =
 
 -- ---- what holds of each byte holds of each that is left
 
-all-squeezed : (p : ℕ → Bool) (after : Bool) (xs : List ℕ) → list_all p xs ≡ true → list_all p (squeezed after xs) ≡ true
+pub all-squeezed : (p : ℕ → Bool) (after : Bool) (xs : List ℕ) → list_all p xs ≡ true → list_all p (squeezed after xs) ≡ true
 all-squeezed p after [] h = refl
 all-squeezed p after (b ∷ bs) h = at (after && (b == 32)) (all-squeezed p true bs rest) (all-squeezed p (b == 32) bs rest)
   where
@@ -126,7 +126,7 @@ all-squeezed p after (b ∷ bs) h = at (after && (b == 32)) (all-squeezed p true
     at true here later = here
     at false here later = ap₂ ◌&&◌ (and-left (p b) (list_all p bs) h) later
 
-all-dropped : (p : ℕ → Bool) (xs : List ℕ) → list_all p xs ≡ true → list_all p (drop_last xs) ≡ true
+pub all-dropped : (p : ℕ → Bool) (xs : List ℕ) → list_all p xs ≡ true → list_all p (drop_last xs) ≡ true
 all-dropped p [] h = refl
 all-dropped p (b ∷ []) h = at (b == 32)
   where

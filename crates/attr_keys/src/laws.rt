@@ -8,9 +8,10 @@ ghost use Rattle.attr_keys.specs.Laws.{AreEqualNames, AreEqualValues};
 
 /// What the keys of names and values are to one another.
 ///
-/// A key is the key of its own text for names, ASCII text, integers, phone numbers and bytes. For other
-/// text it need not be: a bold capital A has no other case, so folding leaves it, and normalizing makes it an A,
-/// of which the key is a. And a space of no break alone has the empty key, which is no value.
+/// A key is the key of its own text for names, ASCII text, text whose case counts, integers, phone numbers
+/// and bytes. For text whose case does not count it need not be: a bold capital A has no other case, so folding
+/// leaves it, and normalizing makes it an A, of which the key is a. And a space of no break alone has the empty
+/// key, which is no value.
 pub fn key_laws()
     ensures name_again { (name : List ℕ) → key_of (key_of name) ≡ key_of name }
 
@@ -25,6 +26,10 @@ pub fn key_laws()
         value_key Kind.Ia5 (value_key Kind.Ia5 value) ≡ value_key Kind.Ia5 value }
     ensures bytes_again { (value : List ℕ) →
         value_key Kind.Oct (value_key Kind.Oct value) ≡ value_key Kind.Oct value }
+
+    // What normalizing and the rule of spaces leave of a text whose case counts, they leave again.
+    ensures exact_again { (value : List ℕ) → bad_value Kind.Exact value ≡ None →
+        value_key Kind.Exact (value_key Kind.Exact value) ≡ value_key Kind.Exact value }
 
     // A directory string has the key that values derived by a view have.
     ensures text { (value : List ℕ) → value_key Kind.Dir value ≡ text_key value }

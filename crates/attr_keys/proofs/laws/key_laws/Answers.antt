@@ -3,6 +3,7 @@ use Rattle.attr_keys.proofs.NameKeys.{key_of-good}
 use Rattle.attr_keys.proofs.NamesAgain.{key_of-again}
 use Rattle.attr_keys.proofs.Texts.{value_key-text}
 use Rattle.attr_keys.proofs.TextsAgain.{ia5-again}
+use Rattle.attr_keys.proofs.ExactAgain.{exact-again}
 use Rattle.attr_keys.proofs.laws.key_laws.Goals as goal
 
 pub returns-clause-name_again : goal.returns-clause-name_again
@@ -25,3 +26,6 @@ returns-clause-name_key c = key_of-good
 
 pub returns-clause-ascii_again : goal.returns-clause-ascii_again
 returns-clause-ascii_again c = ia5-again
+
+pub returns-clause-exact_again : goal.returns-clause-exact_again
+returns-clause-exact_again c = exact-again
