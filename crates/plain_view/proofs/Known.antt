@@ -17,11 +17,11 @@ use Rattle.repl_data.proofs.Orders.{uid_total, uid_exact}
 use Rattle.repl_data.proofs.InOrder.{is_equal, any-in_order_by}
 use Rattle.plain_view.specs.Seen.{is_known_in, present_entry, tombstone}
 
-any_map : {X Y : Type 0} (q : Y → Bool) (f : X → Y) (xs : List X) → list_any q (map f xs) ≡ list_any (λ x. q (f x)) xs
+pub any_map : {X Y : Type 0} (q : Y → Bool) (f : X → Y) (xs : List X) → list_any q (map f xs) ≡ list_any (λ x. q (f x)) xs
 any_map q f [] = refl
 any_map q f (x ∷ xs) = ap (λ r. q (f x) || r) (any_map q f xs)
 
-eq_turned : (u v : Uid) → uid_eq u v ≡ uid_eq v u
+pub eq_turned : (u v : Uid) → uid_eq u v ≡ uid_eq v u
 eq_turned u v = ap is_eq (uid_total.antisymm u v) ∙ by (uid_cmp v u)
   where
     by : (o : Ordering) → is_eq (ordering_reverse o) ≡ is_eq o
@@ -29,7 +29,7 @@ eq_turned u v = ap is_eq (uid_total.antisymm u v) ∙ by (uid_cmp v u)
     by Equal = refl
     by Greater = refl
 
-either_on : (a b : Bool) → b ≡ true → (a || b) ≡ true
+pub either_on : (a b : Bool) → b ≡ true → (a || b) ≡ true
 either_on true b e = refl
 either_on false b e = e
 
@@ -69,7 +69,7 @@ among_both es u = by (is_among_entries (present_of es) u) refl
     by true h = ap (λ b. b || is_among_entries (gone_of es) u) h ∙ sym (among_present es u h)
     by false h = ap (λ b. b || is_among_entries (gone_of es) u) h ∙ among_gone (present_of es) es u h
 
-known_ids : (suffix : Suffix) (changes : List Change) (u : Uid) → is_among_entries (all_facts suffix changes) u ≡ is_known changes u
+pub known_ids : (suffix : Suffix) (changes : List Change) (u : Uid) → is_among_entries (all_facts suffix changes) u ≡ is_known changes u
 known_ids suffix changes u =
     any_map (λ (e : EntryFacts). uid_eq e.id u) (entry_facts suffix changes) (ids_known changes)
     ∙ any-in_order_by uid_cmp uid_total (λ (v : Uid). v) uid_exact (λ (v : Uid). uid_eq v u) (suffix_id ∷ added_ids changes)

@@ -1,2 +1,3 @@
 pub mod Seen
 pub mod Listing
+pub mod Growth

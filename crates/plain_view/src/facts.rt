@@ -372,7 +372,7 @@ fn deaths(alloc: Global, own: &[Change]) -> Result<Items<Stamp>, NoMemory>
 }
 
 /// What its own changes say of an entry.
-fn own_facts(
+pub(crate) fn own_facts(
     alloc: Global,
     suffix: &Suffix,
     id: Uid,

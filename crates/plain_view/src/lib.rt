@@ -4,6 +4,7 @@
 mod acts;
 mod copied;
 mod facts;
+mod grow;
 mod key;
 mod laws;
 mod names;

@@ -89,7 +89,7 @@ impl Tombstone {
 
 /// A present entry, as it shows among the present ones.
 #[tactic(auto, unfolding(crate::specs::Seen::present_entry))]
-fn shown_entry(
+pub(crate) fn shown_entry(
     alloc: Global,
     present: &[EntryFacts],
     e: &EntryFacts,

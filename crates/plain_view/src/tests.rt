@@ -438,3 +438,16 @@ fn questions_are_answered(rt: HostRuntime) -> Result<(), Fail> {
     );
     Ok(())
 }
+
+#[test]
+fn a_view_grows_by_adds(rt: HostRuntime) -> Result<(), Fail> {
+    let alloc = rt.alloc();
+    let mut view = PlainView::new(alloc, &suffix(alloc)?)?;
+    // The one of the lower CSN comes last.
+    view.add(alloc, &add_unit(alloc, at(100, 2))?)?;
+    view.add(alloc, &add_unit(alloc, at(100, 1))?)?;
+    assert_eq!(rt; view.len(), 3);
+    let lines = printed(alloc, &view.dump(alloc)?)?;
+    assert_eq!(rt; lines.as_slice(), TWICE);
+    Ok(())
+}

@@ -40,7 +40,7 @@ use std::marker::Model;
 #[derive(Debug, Drop)]
 pub struct PlainView {
     suffix: Bytes,
-    present: PresentList,
+    pub(crate) present: PresentList,
     gone: TombstoneList,
 }
 
