@@ -5,3 +5,5 @@ pub mod Keeps
 pub mod Taken
 pub mod Same
 pub mod Next
+pub mod Front
+pub mod Rows

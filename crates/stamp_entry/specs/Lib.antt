@@ -1,4 +1,5 @@
 pub mod Ordered
 pub mod Raised
+pub mod First
 pub mod Shown
 pub mod History

@@ -5,6 +5,7 @@
 mod entry;
 mod laws;
 mod raise;
+mod root;
 mod shown;
 mod sorted;
 #[cfg(test)]

@@ -132,7 +132,11 @@ fn blank_attr(alloc: Global, attr: &AttrKey) -> Result<StampedAttr, NoMemory>
 }
 
 /// Takes the attribute out, or makes what it is where no change named it yet.
-fn take(alloc: Global, attr: &AttrKey, attrs: &mut StampedAttrList) -> Result<StampedAttr, NoMemory>
+pub(crate) fn take(
+    alloc: Global,
+    attr: &AttrKey,
+    attrs: &mut StampedAttrList,
+) -> Result<StampedAttr, NoMemory>
     requires { AreOrdered attrs.old }
     ensures attr { IfOk result (λ a. a ≡ attr_at attr.now attrs.old) }
     ensures name { IfOk result (λ a. a.attr.name ≡ attr.now.name) }
