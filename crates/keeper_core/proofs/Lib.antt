@@ -1,3 +1,4 @@
 pub mod Keys
 pub mod Placed
 pub mod Left
+pub mod History

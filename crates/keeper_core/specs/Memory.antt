@@ -11,6 +11,8 @@ pub record MapState : Type 0 where
   -- the numbers of the batches and of the reads that fail, each counted from 1
   pub failing_batches : List ℕ
   pub failing_reads : List ℕ
+  -- how many batches were kept
+  pub kept : ℕ
   -- how many batches and how many reads came, and how many of both failed
   pub batches : ℕ
   pub reads : ℕ
@@ -19,11 +21,11 @@ pub record MapState : Type 0 where
 -- a keeper without rows that was not called yet
 abbrev pub empty_map : List ℕ → List ℕ → MapState
 empty_map failing_batches failing_reads =
-    record { rows = []; failing_batches = failing_batches; failing_reads = failing_reads; batches = 0; reads = 0; faults = 0 }
+    record { rows = []; failing_batches = failing_batches; failing_reads = failing_reads; kept = 0; batches = 0; reads = 0; faults = 0 }
 
 -- what a batch leaves that is kept, one for which there was no memory, and one that failed
 abbrev pub after_put : MapState → List BatchStep → MapState
-after_put s batch = record s { rows = after_batch s.rows batch; batches = next_count s.batches }
+after_put s batch = record s { rows = after_batch s.rows batch; kept = next_count s.kept; batches = next_count s.batches }
 
 abbrev pub after_short_put : MapState → MapState
 after_short_put s = record s { batches = next_count s.batches }

@@ -1,4 +1,6 @@
-ghost use Rattle.std.specs.Prelude.{◌≡◌, ◌≢◌, [], Some, Ok, Err, IfOk, OnOk, OnErr};
+ghost use Rattle.std.specs.Prelude.{List, ◌++◌, ◌∷◌, ◌≡◌, ◌≢◌, [], Some, Ok, Err, IfOk, OnOk, OnErr};
+ghost use Rattle.keeper_core.specs.declared.row.BatchStep.{BatchStep};
+ghost use Rattle.keeper_core.specs.Accepted.{after_batches};
 ghost use Rattle.keeper_core.specs.Rows.{IsRising, after_batch};
 
 use crate::keeper::{KeepFault, Keeper};
@@ -47,13 +49,18 @@ impl CalmKeeper {
 impl Keeper for CalmKeeper {
     ghost rows = { λ k. Some k };
 
+    ghost accepted = { λ k batches. k ≡ after_batches [] batches };
+
     ghost faults = { λ _. 0 };
+
+    ghost left = { λ k batches is. is };
 
     /// Never fails but for want of memory. Each step costs a search by halves, and a move of the
     /// rows behind where their number changes.
     fn put_batch(&mut self, _alloc: Global, batch: &Batch) -> Result<(), KeepFault>
         ensures ok { OnOk result (self.new ≡ after_batch self.old batch.now) }
         ensures err { OnErr result (self.new ≡ self.old) }
+        ensures accepted { OnOk result ((batches : List (List BatchStep)) → self.old ≡ after_batches [] batches → self.new ≡ after_batches [] (batches ++ batch.now ∷ [])) }
         ensures calm { result ≢ Err KeepFault.Failed }
     {
         match put_all(&mut self.rows, batch) {

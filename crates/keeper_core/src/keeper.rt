@@ -1,4 +1,6 @@
-ghost use Rattle.std.specs.Prelude.{◌≡◌, List, ℕ, Option, OnOk, OnErr, IfOk};
+ghost use Rattle.std.specs.Prelude.{◌≡◌, ◌++◌, ◌∷◌, [], List, ℕ, Option, OnOk, OnErr, IfOk};
+ghost use Rattle.keeper_core.specs.declared.row.BatchStep.{BatchStep};
+ghost use Rattle.keeper_core.specs.Accepted.{AreLeft};
 ghost use Rattle.keeper_core.specs.Causes.{HasCause, Leaves, Reads};
 ghost use Rattle.keeper_core.specs.declared.row.Row.{Row};
 
@@ -19,6 +21,9 @@ pub trait Keeper {
     /// The rows, in rising order of key, where they are known.
     ghost rows: { Self → Option (List Row) };
 
+    /// It accepted exactly these batches, in this order, since it was made without rows.
+    ghost accepted: { Self → List (List BatchStep) → Type 0 };
+
     /// How many faults there were. The count stands still at `u64::MAX`.
     ghost faults: { Self → ℕ };
 
@@ -27,11 +32,18 @@ pub trait Keeper {
     fn put_batch(&mut self, alloc: Global, batch: &Batch) -> Result<(), KeepFault>
         ensures ok { OnOk result (Leaves (rows self.old) (rows self.new) batch.now) }
         ensures err { OnErr result (rows self.new ≡ rows self.old) }
+        // One batch more, and none where the answer is not Ok.
+        ensures accepted { OnOk result ((batches : List (List BatchStep)) → accepted self.old batches → accepted self.new (batches ++ batch.now ∷ [])) }
+        ensures refused { OnErr result ((batches : List (List BatchStep)) → accepted self.old batches → accepted self.new batches) }
         ensures cause { HasCause (faults self.old) (faults self.new) result };
 
     /// A copy of all rows, in rising order of key.
     fn read_all(&mut self, alloc: Global) -> Result<RowList, KeepFault>
         ensures ok { IfOk result (Reads (rows self.old)) }
         ensures kept { rows self.new ≡ rows self.old }
+        ensures same { (batches : List (List BatchStep)) → accepted self.old batches → accepted self.new batches }
         ensures cause { HasCause (faults self.old) (faults self.new) result };
+
+    /// Told rows are those that the accepted batches leave, taken in order.
+    ghost left: { (k : Self) (batches : List (List BatchStep)) → accepted k batches → AreLeft (rows k) batches };
 }

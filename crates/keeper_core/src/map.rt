@@ -1,5 +1,7 @@
-ghost use Rattle.std.specs.Prelude.{◌≡◌, ◌↔◌, ◌+◌, ◌-◌, ◌^◌, ◌++◌, ◌∷◌, [], min, Some, Ok, Err, IfOk, OnOk, OnErr};
+ghost use Rattle.std.specs.Prelude.{List, ◌≡◌, ◌↔◌, ◌+◌, ◌-◌, ◌^◌, ◌++◌, ◌∷◌, [], min, Some, Ok, Err, IfOk, OnOk, OnErr};
 ghost use Rattle.io_edge.specs.Memory.{NextFails};
+ghost use Rattle.keeper_core.specs.declared.row.BatchStep.{BatchStep};
+ghost use Rattle.keeper_core.specs.Accepted.{HasAccepted};
 ghost use Rattle.keeper_core.specs.Causes.{HasCause, Reads};
 ghost use Rattle.keeper_core.specs.Rows.{IsRising};
 ghost use Rattle.keeper_core.specs.Memory.{after_failed_put, after_failed_read, after_put, after_read, after_short_put, empty_map};
@@ -21,6 +23,7 @@ pub struct MapKeeper {
     rows: Vec<Row>,
     failing_batches: Items<u64>,
     failing_reads: Items<u64>,
+    kept: u64,
     batches: u64,
     reads: u64,
     faults: u64,
@@ -36,6 +39,7 @@ impl Model for MapKeeper {
       rows = k.rows.items;
       failing_batches = k.failing_batches;
       failing_reads = k.failing_reads;
+      kept = k.kept;
       batches = k.batches;
       reads = k.reads;
       faults = k.faults;
@@ -48,12 +52,14 @@ impl MapKeeper {
     /// A keeper without rows, in which the batches and the reads with these numbers fail. Takes no
     /// memory.
     pub fn new(alloc: Global, failing_batches: Items<u64>, failing_reads: Items<u64>) -> MapKeeper
-        ensures { result ≡ empty_map failing_batches failing_reads }
+        ensures value { result ≡ empty_map failing_batches failing_reads }
+        ensures none { HasAccepted result [] }
     {
         MapKeeper {
             rows: Vec::new(alloc),
             failing_batches,
             failing_reads,
+            kept: 0,
             batches: 0,
             reads: 0,
             faults: 0,
@@ -78,6 +84,13 @@ impl MapKeeper {
         self.rows.as_slice()
     }
 
+    /// How many batches were kept. The count stands still at `u64::MAX`.
+    pub fn kept(&self) -> u64
+        ensures { result ≡ self.now.kept }
+    {
+        self.kept
+    }
+
     /// How many batches and reads failed.
     pub fn faults(&self) -> u64
         ensures { result ≡ self.now.faults }
@@ -89,7 +102,11 @@ impl MapKeeper {
 impl Keeper for MapKeeper {
     ghost rows = { λ k. Some k.rows };
 
+    ghost accepted = { HasAccepted };
+
     ghost faults = { λ k. k.faults };
+
+    ghost left = { λ k batches is. is.left };
 
     /// Fails exactly in the batches whose numbers are listed. The list is looked through in each
     /// call. Each step costs a search by halves, and a move of the rows behind where their number
@@ -99,6 +116,8 @@ impl Keeper for MapKeeper {
         ensures ok { OnOk result (self.new ≡ after_put self.old batch.now) }
         ensures failed { result ≡ Err KeepFault.Failed → self.new ≡ after_failed_put self.old }
         ensures short { result ≡ Err KeepFault.NoMemory → self.new ≡ after_short_put self.old }
+        ensures accepted { OnOk result ((batches : List (List BatchStep)) → HasAccepted self.old batches → HasAccepted self.new (batches ++ batch.now ∷ [])) }
+        ensures refused { OnErr result ((batches : List (List BatchStep)) → HasAccepted self.old batches → HasAccepted self.new batches) }
         ensures cause { HasCause self.old.faults self.new.faults result }
     {
         self.batches = self.batches.saturating_add(1);
@@ -107,7 +126,10 @@ impl Keeper for MapKeeper {
             return Err(KeepFault::Failed);
         }
         match put_all(&mut self.rows, batch) {
-            Ok(()) => Ok(()),
+            Ok(()) => {
+                self.kept = self.kept.saturating_add(1);
+                Ok(())
+            }
             Err(_) => Err(KeepFault::NoMemory),
         }
     }
@@ -119,6 +141,7 @@ impl Keeper for MapKeeper {
         ensures ok { IfOk result (λ rows. (rows ≡ self.old.rows) × IsRising rows × (self.new ≡ after_read self.old)) }
         ensures failed { result ≡ Err KeepFault.Failed → self.new ≡ after_failed_read self.old }
         ensures short { result ≡ Err KeepFault.NoMemory → self.new ≡ after_read self.old }
+        ensures same { (batches : List (List BatchStep)) → HasAccepted self.old batches → HasAccepted self.new batches }
         ensures cause { HasCause self.old.faults self.new.faults result }
     {
         self.reads = self.reads.saturating_add(1);

@@ -126,6 +126,7 @@ fn calls_fail_by_their_numbers(rt: HostRuntime) -> Result<(), Fail> {
     assert_eq!(rt; byte_at(alloc, &mut keeper, key), Err(KeepFault::Failed));
     assert_eq!(rt; keeper.faults(), 3);
     assert_eq!(rt; keeper.put_batch(alloc, &two), Ok(()));
+    assert_eq!(rt; keeper.kept(), 2);
     assert_eq!(rt; byte_at(alloc, &mut keeper, key), Ok(Some(2)));
     Ok(())
 }
