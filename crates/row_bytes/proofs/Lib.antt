@@ -1,0 +1,9 @@
+pub mod Loops
+pub mod Found
+pub mod FoundRow
+pub mod Back
+pub mod BackRow
+pub mod Prefix
+pub mod Order
+pub mod Kept
+pub mod Rows
