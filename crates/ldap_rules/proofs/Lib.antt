@@ -1,0 +1,10 @@
+pub mod Walks
+pub mod Places
+pub mod Keys
+pub mod InTurn
+pub mod Counts
+pub mod Goods
+pub mod Named
+pub mod Checked
+pub mod There
+pub mod Written

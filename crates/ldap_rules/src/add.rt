@@ -1,0 +1,90 @@
+ghost use Rattle.std.specs.Prelude.{◌≡◌, ◌∷◌, is_some, IfOk};
+ghost use Rattle.repl_data.specs.View.{child_of};
+ghost use Rattle.ldap_rules.specs.Case.{Gives};
+ghost use Rattle.ldap_rules.specs.Verdict.{add_body};
+
+use crate::attributes::{any_has_too_many_values, attributes, has_class, with_name};
+use crate::case::{refuse_if, refused};
+use crate::counting::has_too_many;
+use crate::derived::has_derived_part;
+use crate::fault::JudgeFault;
+use crate::walk::entry_at;
+use ldap_types::{Code, RawAttr};
+use repl_data::{Body, NoMemory, Rdn, Uid, View};
+use std::alloc::Global;
+
+/// A child shows this relative name.
+fn is_taken<V: View>(view: &V, parent: Uid, rdn: &Rdn) -> bool
+    ensures { result ≡ is_some (child_of (V.view view.now) parent rdn.now) }
+{
+    match view.child(parent, rdn) {
+        Some(_) => true,
+        None => false,
+    }
+}
+
+fn copy(rdn: &Rdn) -> Result<Rdn, NoMemory>
+    ensures { IfOk result (λ copy. copy ≡ rdn.now) }
+{
+    let copy = rdn.clone()?;
+    Ok(copy)
+}
+
+/// What an add of a name makes, which is this relative name and those above it up to the suffix.
+#[tactic(auto, unfolding(crate::specs::Verdict::add_body))]
+fn add_below<V: View>(
+    alloc: Global,
+    view: &V,
+    given: &[RawAttr],
+    rdn: &Rdn,
+    above: &[Rdn],
+) -> Result<Body, JudgeFault>
+    ensures { Gives result (add_body (V.view view.now) given.now (rdn.now ∷ above.now)) }
+{
+    refuse_if(
+        alloc,
+        has_derived_part(rdn.avas.as_slice()),
+        Code::NAMING_VIOLATION,
+    )?;
+    let parent = entry_at(alloc, view, above)?;
+    refuse_if(
+        alloc,
+        is_taken(view, parent, rdn),
+        Code::ENTRY_ALREADY_EXISTS,
+    )?;
+    let too_many = has_too_many(alloc, rdn, given)?;
+    refuse_if(alloc, too_many, Code::ADMIN_LIMIT_EXCEEDED)?;
+    let attrs = attributes(alloc, given)?;
+    let whole = with_name(alloc, rdn, attrs)?;
+    refuse_if(
+        alloc,
+        any_has_too_many_values(whole.as_slice()),
+        Code::CONSTRAINT_VIOLATION,
+    )?;
+    refuse_if(
+        alloc,
+        !has_class(whole.as_slice()),
+        Code::OBJECT_CLASS_VIOLATION,
+    )?;
+    Ok(Body::Add {
+        parent,
+        rdn: copy(rdn)?,
+        attrs: whole,
+    })
+}
+
+/// What an add of a name makes, by the relative names above the suffix.
+#[tactic(auto, unfolding(crate::specs::Verdict::add_body))]
+pub(crate) fn add_body<V: View>(
+    alloc: Global,
+    view: &V,
+    given: &[RawAttr],
+    rdns: &[Rdn],
+) -> Result<Body, JudgeFault>
+    ensures { Gives result (add_body (V.view view.now) given.now rdns.now) }
+{
+    match rdns {
+        [] => Err(refused(alloc, Code::ENTRY_ALREADY_EXISTS)),
+        [rdn, above @ ..] => add_below(alloc, view, given, rdn, above),
+    }
+}
