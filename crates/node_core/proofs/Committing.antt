@@ -1,0 +1,59 @@
+-- A change of the node's own is taken.
+use Rattle.std.proofs.Common.{◌≡◌, Bool, true, false, inl, inr, List, [], ◌∷◌, ◌++◌, refl, sym, ap, subst, ◌∙◌, Contains, Some, option_map, if◌then◌else◌}
+use Rattle.repl_data.specs.declared.csn.Csn.{Csn}
+use Rattle.repl_data.specs.declared.change.Change.{Change}
+use Rattle.repl_data.specs.Order.{csn_eq, number_of}
+use Rattle.repl_data.proofs.CsnTests.{csn_eq-same}
+use Rattle.vector_core.specs.Vector.{IsRaised}
+use Rattle.pending_core.specs.declared.generator.Generator.{Generator}
+use Rattle.pending_core.specs.Pending.{IsAbove, without}
+use Rattle.change_log.specs.Log.{csns_of}
+use Rattle.node_core.specs.Node.{Node}
+use Rattle.node_core.specs.Steps.{csn_at, moment_of, with_csn, takes}
+use Rattle.node_core.specs.Sound.{IsSoundNode, IsOpen}
+use Rattle.node_core.specs.Kept.{IsKept, IsChosen}
+use Rattle.node_core.proofs.Fronts.{csns-from}
+use Rattle.node_core.proofs.Draws.{csn_for-cases}
+use Rattle.node_core.proofs.NodeSteps.{takes-moves}
+use Rattle.node_core.proofs.Alone.{chosen}
+use Rattle.node_core.proofs.Keeping.{drawn_above, entries-taken}
+
+-- a newly drawn CSN is above all pending ones
+pub chosen-above : (n : Node) (old new : Csn) → IsSoundNode n → IsChosen n old new → csn_eq old new ≡ false → IsAbove n.pending new
+chosen-above n old new s ch apart =
+    elim (csn_for-cases n old ch.id ch.now new ch.chosen) [
+      | inl same ↦ (let t : csn_eq old new ≡ true = subst (λ z. csn_eq old z ≡ true) same.1 (csn_eq-same old) in absurd cc)
+      | inr d ↦ drawn_above n ch.now new s (ap (option_map (csn_at n.rid)) d.1 ∙ ap (λ z. Some z) d.2)
+    ]
+
+-- the node with the chosen CSN, part by part
+abbrev pub with_parts : Node → List Change → List Csn → Generator → Node
+with_parts n taken pending last = record n { taken = taken; pending = pending; last = last }
+
+takes_parts : (n : Node) (b : Bool) (pending : List Csn) (last : Generator) (c : Change)
+    → takes (if b then n else record n { last = last; pending = pending }) c ≡ with_parts n (n.taken ++ c ∷ []) (if b then n.pending else pending) (if b then n.last else last)
+takes_parts n true pending last c = refl
+takes_parts n false pending last c = refl
+
+pub takes-parts : (n : Node) (old : Csn) (c : Change)
+    → takes (with_csn n old c.csn) c ≡ with_parts n (n.taken ++ c ∷ []) (if csn_eq old c.csn then n.pending else without n.pending old ++ c.csn ∷ []) (if csn_eq old c.csn then n.last else moment_of c.csn)
+takes-parts n old c = takes_parts n (csn_eq old c.csn) (without n.pending old ++ c.csn ∷ []) (moment_of c.csn) c
+
+same_taken : (n : Node) (b : Bool) (pending : List Csn) (last : Generator) → (let m : Node = (if b then n else record n { last = last; pending = pending }) in m.taken) ≡ n.taken
+same_taken n true pending last = refl
+same_taken n false pending last = refl
+
+pub chosen-fresh : (n : Node) (old new : Csn) → IsSoundNode n → IsOpen n old → IsChosen n old new → Contains (csns_of n.taken) new → ⊥
+chosen-fresh n old new s o ch h =
+    let open' = (chosen n old ch.id ch.now new s o ch.chosen).1 in
+    let d = csns-from n.taken new h in
+    open'.not_taken d.0 (subst (λ xs. Contains xs d.0) (sym (same_taken n (csn_eq old new) (without n.pending old ++ new ∷ []) (moment_of new))) d.1) (ap number_of d.2)
+
+pub kept-own : (n : Node) (heads new : List Csn) (old : Csn) (c : Change) → IsKept n heads → IsOpen n old → IsChosen n old c.csn → IsRaised heads new c.csn
+    → IsKept (with_parts n (n.taken ++ c ∷ []) (if csn_eq old c.csn then n.pending else without n.pending old ++ c.csn ∷ []) (if csn_eq old c.csn then n.last else moment_of c.csn)) new
+kept-own n heads new old c k o ch raised =
+    let both = chosen n old ch.id ch.now c.csn k.sound o ch.chosen in
+    record {
+      sound = subst IsSoundNode (takes-parts n old c) (takes-moves (with_csn n old c.csn) c both.0.sound both.1).sound;
+      entries = entries-taken heads new n.taken c k.entries raised;
+    }

@@ -1,0 +1,5 @@
+pub mod Node
+pub mod Steps
+pub mod Sound
+pub mod Calls
+pub mod Kept

@@ -1,0 +1,24 @@
+//! One node: tickets, commits and updates, each call a step of its definitions.
+#![tactic(auto)]
+
+mod apply;
+mod calls;
+mod commit;
+mod fault;
+mod front;
+mod laws;
+mod node;
+mod reached;
+mod shown;
+mod ticket;
+
+pub use calls::NodeCalls;
+pub use fault::{BeginFault, CommitFault};
+pub use laws::{arrival_laws, node_laws, update_laws, vector_laws};
+pub use ldap_types::Identity;
+pub use node::NodeState;
+pub use ticket::{Receipt, Ticket};
+pub use vector_core::{AcquireFault, Applied, ApplyFault, Offer, Start};
+
+#[cfg(test)]
+mod tests;

@@ -1,0 +1,276 @@
+ghost use Rattle.std.specs.Prelude.{◌≡◌, ◌≢◌, ◌<◌, length, Ok, Err, Some, None, option_map, IfOk, MatchOption};
+ghost use Rattle.repl_data.specs.Order.{bytes_eq};
+ghost use Rattle.repl_data.specs.View.{view_of, dump_of};
+ghost use Rattle.vector_core.specs.Greatest.{greatest, later_of};
+ghost use Rattle.pending_core.specs.Draw.{draw};
+ghost use Rattle.node_core.specs.Node.{new_node};
+ghost use Rattle.node_core.specs.Steps.{csn_at, moment_of, ended, is_too_late, acquire_past, acquire_fault, released};
+ghost use Rattle.node_core.specs.Calls.{Begins, Acquires, IsPending, IsPendingTaken};
+
+use crate::fault::BeginFault;
+use crate::ticket::{Receipt, Ticket};
+use change_log::ChangeLog;
+use pending_core::{Generator, PLACES, PendingList};
+use plain_view::PlainView;
+use repl_data::{Change, Csn, NoMemory, ShownEntryList, Suffix};
+use std::alloc::{AllocError, Global};
+use std::marker::Model;
+use vector_core::{AcquireFault, Start, Vector};
+
+/// One node: the changes that it has taken, what it has drawn and not settled, and who holds it.
+///
+/// Contracts see the record of the definitions.
+#[derive(Debug, Drop)]
+pub struct NodeState {
+    pub(crate) suffix: Suffix,
+    pub(crate) rid: u16,
+    pub(crate) log: ChangeLog,
+    /// The greatest CSN of each originator in the log.
+    pub(crate) heads: Vector,
+    pub(crate) pending: PendingList,
+    pub(crate) generator: Generator,
+    pub(crate) holder: Option<u16>,
+    pub(crate) life: u64,
+    /// The view of the log.
+    pub(crate) view: PlainView,
+    /// The log has adds alone, each after what it needs: its view can grow by one add.
+    pub(crate) grows: bool,
+}
+
+impl Model for NodeState {
+    ghost use Rattle.node_core.specs.Node.{Node};
+    ghost use Rattle.node_core.specs.Kept.{IsKept, IsShown};
+
+    ghost Value = { Node };
+
+    ghost view = { λ s. record { suffix = s.suffix; rid = s.rid; taken = s.log.changes; pending = s.pending; last = s.generator; holder = s.holder; life = s.life } };
+
+    ghost invariant = { λ s. IsKept (record { suffix = s.suffix; rid = s.rid; taken = s.log.changes; pending = s.pending; last = s.generator; holder = s.holder; life = s.life }) s.heads × IsShown s.suffix s.log.changes s.view s.grows };
+}
+
+impl NodeState {
+    /// A node that has taken nothing.
+    pub fn new(alloc: Global, rid: u16, suffix: &Suffix) -> Result<NodeState, NoMemory>
+        requires from_1 { 0 < rid }
+        requires to_65534 { rid < 65535 }
+        ensures { IfOk result (λ n. n ≡ new_node suffix.now rid) }
+    {
+        let view = PlainView::new(alloc, suffix)?;
+        Ok(NodeState {
+            suffix: copied_suffix(suffix)?,
+            rid,
+            log: ChangeLog::new(alloc)?,
+            heads: Vector::new(alloc)?,
+            pending: PendingList::new(alloc)?,
+            generator: Generator { time: 0, seq: 0 },
+            holder: None,
+            life: 1,
+            view,
+            grows: true,
+        })
+    }
+
+    pub fn suffix(&self) -> &Suffix
+        ensures { result.now ≡ self.now.suffix }
+    {
+        &self.suffix
+    }
+
+    pub fn rid(&self) -> u16
+        ensures { result ≡ self.now.rid }
+    {
+        self.rid
+    }
+
+    /// How often the node was started.
+    pub fn life(&self) -> u64
+        ensures { result ≡ self.now.life }
+    {
+        self.life
+    }
+
+    /// The changes that the node has taken, in order of arrival.
+    pub fn taken(&self) -> &[Change]
+        ensures { result.now ≡ self.now.taken }
+    {
+        self.log.changes()
+    }
+
+    /// The view of the changes that the node has taken.
+    pub fn view(&self) -> &PlainView
+        ensures { result.now ≡ view_of self.now.suffix self.now.taken }
+    {
+        &self.view
+    }
+
+    /// The present entries as they show, parents first and siblings in order of shown relative name.
+    /// Takes time in proportion to the square of the entries.
+    pub fn dump(&self, alloc: Global) -> Result<ShownEntryList, NoMemory>
+        ensures { IfOk result (λ entries. entries ≡ dump_of (view_of self.now.suffix self.now.taken)) }
+    {
+        let shown = self.view();
+        shown.dump(alloc)
+    }
+
+    /// How many CSNs are pending.
+    pub fn pending_len(&self) -> usize
+        ensures { result ≡ length self.now.pending }
+    {
+        self.pending.len()
+    }
+}
+
+impl NodeState {
+    /// Draws the next CSN at the time `now`, in seconds since 1970, and makes it pending. Takes
+    /// constant time.
+    pub fn begin(&mut self, now: u32) -> Result<Ticket, BeginFault>
+        ensures step { Begins self.old now result self.new }
+        ensures memory { result ≢ Err BeginFault.NoMemory }
+    {
+        if self.pending.len() >= PLACES {
+            return Err(BeginFault::Full);
+        }
+        let Some(csn) = draw(&mut self.generator, self.rid, now) else {
+            return Err(BeginFault::Exhausted {
+                last: (self.generator.time, self.generator.seq),
+            });
+        };
+        self.pending.begin(csn).unwrap();
+        Ok(Ticket {
+            csn,
+            life: self.life,
+        })
+    }
+
+    /// Gives up a ticket: its CSN is no longer pending. Nothing changes where the node was started
+    /// again since.
+    pub fn abort(&mut self, ticket: Ticket)
+        requires open { ticket.life ≡ self.old.life → IsPending self.old ticket.csn }
+        requires uncommitted { ticket.life ≡ self.old.life → IsPendingTaken self.old ticket.csn → ⊥ }
+        ensures { self.new ≡ ended self.old ticket.life ticket.csn }
+    {
+        let Ticket { csn, life } = ticket;
+        if life == self.life {
+            self.pending.abort(csn);
+        }
+    }
+
+    /// The CSN of a committed change is no longer pending. Nothing changes where the node was
+    /// started again since.
+    pub fn settle(&mut self, receipt: Receipt)
+        requires { receipt.life ≡ self.old.life → IsPendingTaken self.old receipt.csn }
+        ensures { self.new ≡ ended self.old receipt.life receipt.csn }
+    {
+        let Receipt {
+            csn,
+            life,
+            number: _,
+        } = receipt;
+        if life == self.life {
+            self.pending.settle(csn);
+        }
+    }
+
+    /// Lets a supplier begin to send, at the time `now` in seconds since 1970. One look at each entry
+    /// of its vector.
+    pub fn acquire(&mut self, start: &Start, now: u32) -> Result<(), AcquireFault>
+        ensures step { Acquires self.old start.now now result self.new }
+        ensures memory { result ≢ Err AcquireFault.NoMemory }
+    {
+        if let Some(fault) = self.acquire_fault(start, now) {
+            return Err(fault);
+        }
+        self.holder = Some(start.rid);
+        Ok(())
+    }
+
+    /// Why the supplier may not begin.
+    fn acquire_fault(&self, start: &Start, now: u32) -> Option<AcquireFault>
+        ensures fault { result ≡ acquire_fault self.now start.now.suffix start.now.rid start.now.front now }
+        ensures memory { result ≢ Some AcquireFault.NoMemory }
+    {
+        if !same(self.suffix.name.as_slice(), start.suffix.as_slice()) {
+            return Some(AcquireFault::WrongSuffix);
+        }
+        if start.rid == self.rid {
+            return Some(AcquireFault::SameId);
+        }
+        match self.holder {
+            Some(rid) if rid != start.rid => Some(AcquireFault::Busy { rid }),
+            _ => acquire_skew(start.front.entries(), now),
+        }
+    }
+
+    /// The supplier holds the node no longer.
+    pub fn release(&mut self, rid: u16)
+        ensures { self.new ≡ released self.old rid }
+    {
+        if self.holder == Some(rid) {
+            self.holder = None;
+        }
+    }
+}
+
+fn copied_suffix(suffix: &Suffix) -> Result<Suffix, AllocError>
+    ensures { IfOk result (λ copy. copy ≡ suffix.now) }
+{
+    suffix.clone()
+}
+
+fn same(a: &[u8], b: &[u8]) -> bool
+    ensures { result ≡ bytes_eq a.now b.now }
+{
+    a.cmp(b).is_eq()
+}
+
+/// The next CSN of the replica; none, and nothing changes, where the generator is at its end.
+pub(crate) fn draw(generator: &mut Generator, rid: u16, now: u32) -> Option<Csn>
+    ensures csn { result ≡ option_map (csn_at rid) (draw generator.old now) }
+    ensures last { MatchOption result (generator.new ≡ generator.old) (λ csn. generator.new ≡ moment_of csn) }
+{
+    match generator.next(now) {
+        Ok((time, seq)) => Some(Csn {
+            time,
+            seq,
+            rid,
+            sub: 0,
+        }),
+        Err(_) => None,
+    }
+}
+
+/// The time is more than a day ahead.
+pub(crate) fn is_too_late(now: u32, time: u32) -> bool
+    ensures { result ≡ is_too_late now time }
+{
+    now as u64 + 86400 < time as u64
+}
+
+fn later(a: Csn, b: Csn) -> Csn
+    ensures { result ≡ later_of a b }
+{
+    if a.compare(b).is_lt() { b } else { a }
+}
+
+/// The greatest of the entries of a vector, and zero where there is none.
+fn greatest_of(entries: &[Csn]) -> Csn
+    ensures { result ≡ greatest entries.now }
+{
+    let mut most = Csn::ZERO;
+    for csn in entries {
+        most = later(most, *csn);
+    }
+    most
+}
+
+/// Why a supplier with this vector may not begin.
+fn acquire_skew(entries: &[Csn], now: u32) -> Option<AcquireFault>
+    ensures fault { result ≡ acquire_past entries.now now }
+    ensures memory { result ≢ Some AcquireFault.NoMemory }
+{
+    let csn = greatest_of(entries);
+    if is_too_late(now, csn.time) {
+        return Some(AcquireFault::Skew { csn, now });
+    }
+    None
+}

@@ -1,0 +1,85 @@
+use crate::calls::NodeCalls;
+use crate::fault::{BeginFault, CommitFault};
+use crate::node::NodeState;
+use crate::ticket::{Receipt, Ticket};
+use ldap_types::{Identity, Request};
+use repl_data::{NoMemory, Update};
+use std::alloc::Global;
+use vector_core::{AcquireFault, Applied, ApplyFault, Offer, Start, Vector};
+
+/// A node that nothing but its calls changes: the open tickets are those of its pending CSNs.
+impl NodeCalls for NodeState {
+    ghost use Rattle.std.specs.Prelude.{◌≡◌};
+    ghost use Rattle.repl_data.specs.declared.csn.Csn.{Csn};
+    ghost use Rattle.repl_data.specs.declared.change.Update.{Update};
+    ghost use Rattle.node_core.specs.Node.{Node};
+    ghost use Rattle.node_core.specs.Calls.{IsPending, IsPendingTaken};
+
+    ghost node = { λ s. s };
+
+    ghost met = { λ old _. old };
+
+    ghost follows = { λ _ left meets. meets ≡ left };
+
+    ghost is_open = { IsPending };
+
+    ghost is_committed = { IsPendingTaken };
+
+    ghost heard = { λ _ update. update };
+
+    ghost faults = { λ _. 0 };
+
+    fn begin(&mut self, _alloc: Global, now: u32) -> Result<Ticket, BeginFault> {
+        let _ = &self.rid;
+        self.begin(now)
+    }
+
+    fn abort(&mut self, ticket: Ticket) {
+        let _ = &self.rid;
+        self.abort(ticket);
+    }
+
+    fn settle(&mut self, receipt: Receipt) {
+        let _ = &self.rid;
+        self.settle(receipt);
+    }
+
+    fn acquire(&mut self, _alloc: Global, start: &Start, now: u32) -> Result<(), AcquireFault> {
+        self.acquire(start, now)
+    }
+
+    fn release(&mut self, rid: u16) {
+        self.release(rid);
+    }
+
+    fn offer(&mut self, alloc: Global, beyond: &Vector) -> Result<Offer, NoMemory> {
+        NodeState::offer(self, alloc, beyond)
+    }
+
+    fn apply(
+        &mut self,
+        alloc: Global,
+        from: u16,
+        update: &Update,
+        now: u32,
+    ) -> Result<Applied, ApplyFault> {
+        let _ = &self.rid;
+        self.apply(alloc, from, update, now)
+    }
+
+    fn vector(&mut self, alloc: Global) -> Result<Vector, NoMemory> {
+        NodeState::vector(self, alloc)
+    }
+
+    fn commit(
+        &mut self,
+        alloc: Global,
+        ticket: Ticket,
+        request: &Request,
+        bound: Identity,
+        now: u32,
+    ) -> Result<Receipt, (Ticket, CommitFault)> {
+        let _ = &self.rid;
+        self.commit(alloc, ticket, request, bound, now)
+    }
+}
