@@ -1,0 +1,74 @@
+-- What a feed of a connection comes to.
+use Rattle.std.specs.Prelude.{◌≡◌, ◌≤◌, ℕ, Bool, true, false, List, [], ◌∷◌, ◌++◌, length, Result, Ok, Err}
+use Rattle.repl_data.specs.declared.items.NoMemory.{NoMemory}
+use Rattle.ldap_types.specs.declared.request.Request.{Request}
+use Rattle.ldap_types.specs.declared.reply.Identity.TheVariants.{Anonymous}
+use Rattle.conn_core.specs.declared.fed.Fed.{Fed}
+use Rattle.conn_core.specs.declared.fed.Fed.TheVariants.{Running, Unbound, BadBytes, Closed}
+use Rattle.conn_core.specs.declared.conn.Conn.{Conn}
+use Rattle.conn_core.specs.Stream.{BeginsWith, EndsSo}
+use Rattle.conn_core.specs.Serving.{Reach, Session, AreServed, notice}
+
+-- a connection that was not fed yet
+abbrev pub new_conn : Conn
+new_conn = record { held = []; replies = []; bound = Anonymous; starved = 0; is_closed = false }
+
+abbrev pub session : {N : Type 0} → Conn → N → Session N
+session conn node = record { node = node; bound = conn.bound; replies = conn.replies; starved = conn.starved }
+
+-- THE REQUESTS at the front of the bytes are carried out, from the one state to the other, and these bytes are left
+pub record Carries {N : Type 0} (c : Reach N) (now : ℕ) (bytes : List ℕ) (old : Session N) (left : List ℕ) (new : Session N) : Type 0 where
+  pub requests : List Request
+  pub begins : BeginsWith bytes requests left
+  pub served : AreServed c now requests old new
+
+-- behind the replies, the notice of disconnection where bytes are at fault
+abbrev pub notice_of : Fed → List (List ℕ)
+notice_of (BadBytes place) = notice ∷ []
+notice_of _ = []
+
+-- the bytes of an unfinished request are kept, and none where the connection has ended
+abbrev pub held_of : Fed → List ℕ → List ℕ
+held_of Running left = left
+held_of _ left = []
+
+abbrev pub is_end : Fed → Bool
+is_end Running = false
+is_end _ = true
+
+-- A FEED of an open connection: the requests that the bytes so far make whole are carried out
+pub record Feeds {N : Type 0} (c : Reach N) (now : ℕ) (piece : List ℕ) (old : Conn) (node : N) (fed : Fed) (new : Conn) (after : N) : Type 0 where
+  pub left : List ℕ
+  pub last : Session N
+  pub carried : Carries c now (old.held ++ piece) (session old node) left last
+  pub ends : EndsSo left fed
+  pub state : session new after ≡ record last { replies = last.replies ++ notice_of fed }
+  pub held : new.held ≡ held_of fed left
+  pub closed : new.is_closed ≡ is_end fed
+
+-- The state is this one, where the last reply may be missing.
+pub record IsCut {N : Type 0} (whole cut : Session N) : Type 0 where
+  pub missing : List (List ℕ)
+  pub replies : whole.replies ≡ cut.replies ++ missing
+  pub last_alone : length missing ≤ 1
+  pub same_node : cut.node ≡ whole.node
+  pub same_bound : cut.bound ≡ whole.bound
+  pub same_count : cut.starved ≡ whole.starved
+
+-- The first requests are carried out, each whole, and the reply of the last one may be missing.
+pub record CarriesPart {N : Type 0} (c : Reach N) (now : ℕ) (bytes : List ℕ) (old new : Session N) : Type 0 where
+  pub left : List ℕ
+  pub last : Session N
+  pub carried : Carries c now bytes old left last
+  pub cut : IsCut last new
+
+-- whole, or, where memory was wanting, so
+abbrev pub Leaves : {N : Type 0} → Result (Unit {0}) NoMemory → Session N → Session N → Type 0
+Leaves (Ok u) whole s = s ≡ whole
+Leaves (Err short) whole s = IsCut whole s
+
+-- AFTER WANT OF MEMORY the first requests are carried out, and the connection has ended.
+pub record FeedsPart {N : Type 0} (c : Reach N) (now : ℕ) (piece : List ℕ) (old : Conn) (node : N) (new : Conn) (after : N) : Type 0 where
+  pub part : CarriesPart c now (old.held ++ piece) (session old node) (session new after)
+  pub held : new.held ≡ []
+  pub closed : new.is_closed ≡ true

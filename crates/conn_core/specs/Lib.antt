@@ -1,0 +1,5 @@
+pub mod Stream
+pub mod Whole
+pub mod First
+pub mod Serving
+pub mod Feeding

@@ -1,0 +1,197 @@
+-- What a request does, by the calls of a node, and what it is answered.
+use Rattle.std.specs.Prelude.{◌≡◌, ◌≤◌, ◌⊎◌, ℕ, ◌+◌, ◌-◌, ◌^◌, min, ◌==◌, Bool, true, false, not, ◌||◌, if◌then◌else◌, List, [], ◌∷◌, ◌++◌, Option, Some, None, Result, Ok, Err, codes}
+use Rattle.std.specs.List.{list_any}
+use Rattle.repl_data.specs.declared.csn.Csn.{Csn}
+use Rattle.repl_data.specs.declared.items.NoMemory.{NoMemory}
+use Rattle.repl_data.specs.Order.{bytes_eq}
+use Rattle.ldap_types.specs.declared.request.Request.{Request}
+use Rattle.ldap_types.specs.declared.request.Control.{Control}
+use Rattle.ldap_types.specs.declared.request.BindRequest.{BindRequest}
+use Rattle.ldap_types.specs.declared.request.Op.{Op}
+use Rattle.ldap_types.specs.declared.request.Op.TheVariants as op
+use Rattle.ldap_types.specs.declared.reply.Reply.{Reply}
+use Rattle.ldap_types.specs.declared.reply.ReplyOp.{ReplyOp}
+use Rattle.ldap_types.specs.declared.reply.ReplyOp.TheVariants as reply
+use Rattle.ldap_types.specs.declared.reply.LdapResult.{LdapResult}
+use Rattle.ldap_types.specs.declared.reply.Identity.{Identity}
+use Rattle.ldap_types.specs.declared.reply.Identity.TheVariants.{Anonymous}
+use Rattle.ldap_replies.specs.Form.{reply_bytes}
+use Rattle.ldap_rules.specs.Bind.{bind_verdict}
+use Rattle.ldap_rules.specs.Case.{result_of}
+use Rattle.ldap_rules.specs.Verdict.{is_update_control}
+use Rattle.node_core.specs.declared.fault.BeginFault.{BeginFault}
+use Rattle.node_core.specs.declared.fault.BeginFault.TheVariants as begin
+use Rattle.node_core.specs.declared.fault.CommitFault.{CommitFault}
+use Rattle.node_core.specs.declared.fault.CommitFault.TheVariants as commit
+use Rattle.node_core.specs.declared.ticket.Ticket.{Ticket}
+use Rattle.node_core.specs.declared.ticket.Receipt.{Receipt}
+use Rattle.node_core.specs.Node.{Node}
+use Rattle.node_core.specs.Steps.{judge_view, ended}
+use Rattle.node_core.specs.Calls.{Begins, Commits, CommitCause}
+
+-- ---- which requests are built
+
+abbrev pub start_name : List ℕ
+start_name = codes "2.999.389.1"
+
+abbrev pub end_name : List ℕ
+end_name = codes "2.999.389.2"
+
+-- the extended operations that open and close a session between servers
+abbrev pub is_session : List ℕ → Bool
+is_session oid = bytes_eq oid start_name || bytes_eq oid end_name
+
+abbrev pub has_update : List Control → Bool
+has_update controls = list_any is_update_control controls
+
+-- Binds, unbinds, abandons, extended operations of other names, and adds without the control of an update are built.
+abbrev pub is_built : Request → Bool
+is_built r = by_op r.controls r.op
+  where
+    by_op : List Control → Op → Bool
+    by_op controls (op.Bind b) = true
+    by_op controls op.Unbind = true
+    by_op controls (op.Abandon id) = true
+    by_op controls (op.Extended oid value) = not (is_session oid)
+    by_op controls (op.Add object attrs) = not (has_update controls)
+    by_op controls _ = false
+
+-- ---- replies
+
+-- the response to an operation with this result, where it has one (RFC 4511, sections 4.1.9, 4.3 and 4.11)
+abbrev pub reply_to : Op → LdapResult → Option ReplyOp
+reply_to (op.Bind b) result = Some (reply.Bind result)
+reply_to op.Unbind result = None
+reply_to (op.Search s) result = Some (reply.Done result)
+reply_to (op.Modify object mods) result = Some (reply.Modify result)
+reply_to (op.Add object attrs) result = Some (reply.Add result)
+reply_to (op.Delete object) result = Some (reply.Delete result)
+reply_to (op.Rename object new_rdn delete_old new_superior) result = Some (reply.Rename result)
+reply_to (op.Compare object name value) result = Some (reply.Compare result)
+reply_to (op.Abandon id) result = None
+reply_to (op.Extended oid value) result = Some (reply.Extended result None None)
+
+-- the bytes of the reply with this id
+abbrev pub sent : ℕ → Option ReplyOp → List (List ℕ)
+sent id None = []
+sent id (Some op) = reply_bytes (record { id = id; op = op }) ∷ []
+
+-- NOTICE OF DISCONNECTION (RFC 4511, section 4.4.1): protocolError, in a reply that nobody asked for
+abbrev pub notice_name : List ℕ
+notice_name = codes "1.3.6.1.4.1.1466.20036"
+
+unfoldable pub notice : List ℕ
+notice = reply_bytes (record { id = 0; op = reply.Extended (result_of 2) (Some notice_name) None })
+
+-- `busy` where too many CSNs are pending, and `unwillingToPerform` where there is none to draw
+abbrev pub used_up : LdapResult
+used_up = record { code = record { number = 53 }; matched = []; text = codes "csn space used up" }
+
+-- the code told this result, or memory was wanting for its text
+abbrev pub IsTold : LdapResult → Result LdapResult NoMemory → Type 0
+IsTold told (Ok r) = r ≡ told
+IsTold told (Err short) = told ≡ used_up
+
+abbrev pub begin_result : BeginFault → LdapResult
+begin_result begin.NoMemory = result_of 80
+begin_result begin.Full = result_of 51
+begin_result (begin.Exhausted last) = used_up
+
+-- `unavailable` where the keeper failed, and `other` where memory was wanting. A ticket of a connection is never stale.
+abbrev pub commit_result : CommitFault → Option LdapResult
+commit_result commit.NoMemory = Some (result_of 80)
+commit_result (commit.Stale life node_life) = None
+commit_result (commit.Refused result) = Some result
+commit_result (commit.Exhausted last) = Some used_up
+commit_result commit.KeeperFault = Some (result_of 52)
+
+-- ---- the calls of a node
+
+-- how a node is reached by the values of a type: the node as a call left it, the node that a call met, which node may
+-- come from which by steps of others, and how many calls of the keeper failed
+pub record Reach (N : Type 0) : Type 1 where
+  pub node : N → Node
+  pub met : N → N → Node
+  pub follows : N → Node → Node → Type 0
+  pub faults : N → ℕ
+
+-- a call leads from the one value to the other
+pub record IsCall {N : Type 0} (c : Reach N) (old new : N) : Type 0 where
+  pub meets : c.follows old (c.node old) (c.met old new)
+  pub life : (c.met old new).life ≡ (c.node old).life
+  pub count : c.faults old ≤ c.faults new
+
+-- one begins a ticket
+pub record IsBegun {N : Type 0} (c : Reach N) (now : ℕ) (old new : N) (answer : Result Ticket BeginFault) : Type 0 where
+  pub call : IsCall c old new
+  pub step : Begins (c.met old new) now answer (c.node new)
+
+-- one commits it
+pub record IsCommitted {N : Type 0} (c : Reach N) (now : ℕ) (bound : Identity) (request : Request) (ticket : Ticket) (old new : N) (answer : Result Receipt (Ticket × CommitFault)) : Type 0 where
+  pub call : IsCall c old new
+  pub step : Commits judge_view (c.met old new) ticket request bound now answer (c.node new)
+  pub cause : CommitCause (c.faults old) (c.faults new) answer
+
+-- one settles or aborts it
+pub record IsEnded {N : Type 0} (c : Reach N) (life : ℕ) (csn : Csn) (old new : N) : Type 0 where
+  pub call : IsCall c old new
+  pub step : c.node new ≡ ended (c.met old new) life csn
+
+-- A WRITE: it begins, it is committed, and then it is settled, or aborted where it was not committed.
+pub data IsWritten {N : Type 0} (c : Reach N) (now : ℕ) (bound : Identity) (request : Request) (old new : N) : LdapResult → Type 0 where
+  not_begun : (fault : BeginFault) → IsBegun c now old new (Err fault) → IsWritten c now bound request old new (begin_result fault)
+  settled : (ticket : Ticket) (receipt : Receipt) (begun committed : N) → IsBegun c now old begun (Ok ticket)
+      → IsCommitted c now bound request ticket begun committed (Ok receipt)
+      → IsEnded c receipt.life receipt.csn committed new → IsWritten c now bound request old new (result_of 0)
+  aborted : (ticket back : Ticket) (fault : CommitFault) (result : LdapResult) (begun committed : N) → IsBegun c now old begun (Ok ticket)
+      → IsCommitted c now bound request ticket begun committed (Err (back, fault)) → commit_result fault ≡ Some result
+      → IsEnded c back.life back.csn committed new → IsWritten c now bound request old new result
+
+-- ---- one request
+
+-- whom a bind names, and its result; or, where memory was wanting, nobody
+abbrev pub Binds : BindRequest → Identity → LdapResult → Type 0
+Binds b after result = (bind_verdict b ≡ (after, result)) ⊎ ((after ≡ Anonymous) × (result ≡ result_of 80))
+
+-- The code of an answer that is the same on every node: `protocolError` to an extended operation of a name that nobody
+-- knows. What is not built is `unwillingToPerform`. (An unbind and an abandon have no reply.)
+abbrev pub plain_code : Op → ℕ
+plain_code op.Unbind = 0
+plain_code (op.Abandon id) = 0
+plain_code (op.Extended oid value) = if is_session oid then 53 else 2
+plain_code _ = 53
+
+-- What a request does at this time, on a connection that speaks for `bound`, leaving it to speak for `after`: a bind by
+-- its rules, an add as a write, and nothing else touches the node.
+abbrev pub Serves : {N : Type 0} → Reach N → ℕ → Identity → Request → N → N → Identity → LdapResult → Op → Type 0
+Serves c now bound request old new after result (op.Bind b) = (new ≡ old) × Binds b after result
+Serves c now bound request old new after result (op.Add object attrs) =
+    (after ≡ bound) × (((has_update request.controls ≡ false) × IsWritten c now bound request old new result)
+    ⊎ ((has_update request.controls ≡ true) × (new ≡ old) × (result ≡ result_of 53)))
+Serves c now bound request old new after result other = (new ≡ old) × (after ≡ bound) × (result ≡ result_of (plain_code other))
+
+-- one more request that was answered `other`, which comes for want of memory alone; the count stands still at its end
+abbrev pub count_starved : LdapResult → ℕ → ℕ
+count_starved result n = if result.code.number == 80 then min (n + 1) (2 ^ 64 - 1) else n
+
+-- a connection, and the node behind it, as a request finds them
+pub record Session (N : Type 0) : Type 0 where
+  pub node : N
+  -- whom the connection speaks for
+  pub bound : Identity
+  -- the replies that wait, in order
+  pub replies : List (List ℕ)
+  -- how many requests were answered `other`
+  pub starved : ℕ
+
+-- ONE REQUEST IS CARRIED OUT, and its reply joins those that wait
+pub record IsServed {N : Type 0} (c : Reach N) (now : ℕ) (request : Request) (old new : Session N) : Type 0 where
+  pub result : LdapResult
+  pub served : Serves c now old.bound request old.node new.node new.bound result request.op
+  pub replied : new.replies ≡ old.replies ++ sent request.id (reply_to request.op result)
+  pub counted : new.starved ≡ count_starved result old.starved
+
+-- one after the other
+abbrev pub AreServed : {N : Type 0} → Reach N → ℕ → List Request → Session N → Session N → Type 0
+AreServed c now [] old new = new ≡ old
+AreServed c now (r ∷ rs) old new = (between : Session _) × IsServed c now r old between × AreServed c now rs between new

@@ -1,0 +1,295 @@
+ghost use Rattle.std.specs.Prelude.{◌≡◌, ◌≢◌, ◌≤◌, ◌↔◌, ◌++◌, ◌∷◌, [], true, false, Ok, List, ℕ, length, drop, IfOk, OnOk, OnErr, MatchOption};
+ghost use Rattle.ldap_types.specs.declared.request.Request.{Request};
+ghost use Rattle.ldap_replies.specs.Form.{reply_bytes};
+ghost use Rattle.node_core.specs.Calls.{AreSame};
+ghost use Rattle.conn_core.specs.Stream.{EndsSo};
+ghost use Rattle.conn_core.specs.Serving.{Reach, Serves, Binds, Session, IsServed, IsTold};
+ghost use Rattle.conn_core.specs.Feeding.{new_conn, session, Carries, Feeds, FeedsPart, CarriesPart, Leaves, held_of, is_end, notice_of};
+
+use crate::fed::Fed;
+use crate::first::{First, read_first};
+use crate::queue::ReplyQueue;
+use crate::reply::{bytes_of, count_starved, notice, plain_code, reply_to, result_of};
+use crate::write::add;
+use ldap_rules::judge_bind;
+use ldap_types::{BindRequest, Bytes, Code, Identity, LdapResult, NoMemory, Op, Reply, Request};
+use node_core::NodeCalls;
+use std::alloc::Global;
+use std::mem;
+
+/// One connection of a client.
+#[derive(Debug, Drop)]
+pub struct Conn {
+    held: Bytes,
+    replies: ReplyQueue,
+    bound: Identity,
+    starved: u64,
+    is_closed: bool,
+}
+
+impl Conn {
+    /// A connection that was not fed yet. It speaks for nobody.
+    pub fn new(alloc: Global) -> Result<Conn, NoMemory>
+        ensures { IfOk result (λ conn. conn ≡ new_conn) }
+    {
+        Ok(Conn {
+            held: Bytes::new(alloc),
+            replies: ReplyQueue::new(alloc),
+            bound: Identity::Anonymous,
+            starved: 0,
+            is_closed: false,
+        })
+    }
+
+    /// Whom the connection speaks for.
+    pub fn identity(&self) -> Identity
+        ensures { result ≡ self.now.bound }
+    {
+        self.bound
+    }
+
+    /// How many bytes of an unfinished message are kept.
+    pub fn held(&self) -> usize
+        ensures { result ≡ length self.now.held }
+    {
+        self.held.len()
+    }
+
+    /// How many requests were answered `other` (RFC 4511, appendix A), which comes for want of memory
+    /// alone. The count stands still at `u64::MAX`.
+    pub fn starved(&self) -> u64
+        ensures { result ≡ self.now.starved }
+    {
+        self.starved
+    }
+
+    /// The connection takes no more bytes.
+    pub fn is_closed(&self) -> bool
+        ensures { result ≡ self.now.is_closed }
+    {
+        self.is_closed
+    }
+
+    /// The next reply that was not given yet, if one waits.
+    pub fn next_reply(&mut self) -> Option<Bytes>
+        ensures reply { MatchOption result ((self.old.replies ≡ []) × (self.new.replies ≡ [])) (λ reply. self.old.replies ≡ reply ∷ self.new.replies) }
+        ensures others { self.new ≡ record self.old { replies = self.new.replies } }
+    {
+        self.replies.pop()
+    }
+
+    /// Binds, and gives the result. Where memory is wanting, nobody is bound.
+    fn bind(&mut self, alloc: Global, request: &BindRequest) -> LdapResult
+        ensures bound { Binds request.now self.new.bound result }
+        ensures others { self.new ≡ record self.old { bound = self.new.bound } }
+    {
+        match judge_bind(alloc, request) {
+            Ok((identity, told)) => {
+                self.bound = identity;
+                told
+            }
+            Err(NoMemory) => {
+                self.bound = Identity::Anonymous;
+                result_of(alloc, Code::OTHER)
+            }
+        }
+    }
+
+    /// Does what a request asks for, and gives its result.
+    fn answer<N: NodeCalls>(
+        &mut self,
+        alloc: Global,
+        node: &mut N,
+        now: u32,
+        request: &Request,
+    ) -> Result<LdapResult, NoMemory>
+        ensures served { (told : LdapResult) × Serves (record { node = N.node; met = N.met; follows = N.follows; faults = N.faults }) now self.old.bound request.now node.old node.new self.new.bound told request.now.op × IsTold told result }
+        ensures others { self.new ≡ record self.old { bound = self.new.bound } }
+        ensures open { AreSame (N.is_open node.old) (N.is_open node.new) }
+        ensures committed { AreSame (N.is_committed node.old) (N.is_committed node.new) }
+        ensures life { (N.node node.new).life ≡ (N.node node.old).life }
+    {
+        match &request.op {
+            Op::Bind(bind) => Ok(self.bind(alloc, bind)),
+            Op::Add { .. } => add(alloc, node, now, self.bound, request),
+            op => Ok(result_of(alloc, plain_code(op))),
+        }
+    }
+
+    /// A reply joins those that wait.
+    fn send(&mut self, alloc: Global, reply: &Reply) -> Result<(), NoMemory>
+        ensures ok { OnOk result (self.new ≡ record self.old { replies = self.old.replies ++ reply_bytes reply.now ∷ [] }) }
+        ensures err { OnErr result (self.new ≡ self.old) }
+    {
+        let bytes = bytes_of(alloc, reply)?;
+        self.replies.push(bytes)
+    }
+
+    /// Carries out a request. Its reply, where it has one, joins those that wait.
+    fn carry_out<N: NodeCalls>(
+        &mut self,
+        alloc: Global,
+        node: &mut N,
+        now: u32,
+        request: &Request,
+    ) -> Result<(), NoMemory>
+        ensures served { (last : Session N) × IsServed (record { node = N.node; met = N.met; follows = N.follows; faults = N.faults }) now request.now (session self.old node.old) last × Leaves result last (session self.new node.new) }
+        ensures held { self.new.held ≡ self.old.held }
+        ensures closed { self.new.is_closed ≡ self.old.is_closed }
+        ensures open { AreSame (N.is_open node.old) (N.is_open node.new) }
+        ensures committed { AreSame (N.is_committed node.old) (N.is_committed node.new) }
+        ensures life { (N.node node.new).life ≡ (N.node node.old).life }
+    {
+        let Ok(told) = self.answer(alloc, node, now, request) else {
+            return Err(NoMemory);
+        };
+        self.starved = count_starved(&told, self.starved);
+        let Some(op) = reply_to(&request.op, told) else {
+            return Ok(());
+        };
+        let reply = Reply { id: request.id, op };
+        if let Err(NoMemory) = self.send(alloc, &reply) {
+            return Err(NoMemory);
+        }
+        Ok(())
+    }
+
+    /// Carries out the requests at the front of the stream. Gives why no other is, and where.
+    fn serve<N: NodeCalls>(
+        &mut self,
+        alloc: Global,
+        node: &mut N,
+        now: u32,
+        stream: &[u8],
+    ) -> Result<(Fed, usize), NoMemory>
+        ensures served { IfOk result (λ p. Carries (record { node = N.node; met = N.met; follows = N.follows; faults = N.faults }) now stream.now (session self.old node.old) (drop p.1 stream.now) (session self.new node.new) × EndsSo (drop p.1 stream.now) p.0) }
+        ensures within { IfOk result (λ p. p.1 ≤ length stream.now) }
+        ensures cut { OnErr result (CarriesPart (record { node = N.node; met = N.met; follows = N.follows; faults = N.faults }) now stream.now (session self.old node.old) (session self.new node.new)) }
+        ensures held { self.new.held ≡ self.old.held }
+        ensures closed { self.new.is_closed ≡ self.old.is_closed }
+        ensures open { AreSame (N.is_open node.old) (N.is_open node.new) }
+        ensures committed { AreSame (N.is_committed node.old) (N.is_committed node.new) }
+        ensures life { (N.node node.new).life ≡ (N.node node.old).life }
+    {
+        let mut at = 0;
+        while at < stream.len() {
+            let Ok(first) = read_first(alloc, &stream[at..]) else {
+                return Err(NoMemory);
+            };
+            match first {
+                First::Ends(fed) => return Ok((fed, at)),
+                First::Next(request, size) => {
+                    if let Err(NoMemory) = self.carry_out(alloc, node, now, &request) {
+                        return Err(NoMemory);
+                    }
+                    at += size;
+                }
+            }
+        }
+        Ok((Fed::Running, at))
+    }
+
+    /// Keeps the bytes of an unfinished message, or ends the connection.
+    fn finish(&mut self, alloc: Global, fed: Fed, stream: Bytes, at: usize) -> Result<(), NoMemory>
+        requires within { at ≤ length stream }
+        requires empty { self.old.held ≡ [] }
+        requires answer { fed ≢ Fed.Closed }
+        ensures held { OnOk result (self.new.held ≡ held_of fed (drop at stream)) }
+        ensures closed { OnOk result (self.new.is_closed ≡ is_end fed) }
+        ensures replies { OnOk result (self.new.replies ≡ self.old.replies ++ notice_of fed) }
+        ensures others { (self.new.bound ≡ self.old.bound) × (self.new.starved ≡ self.old.starved) }
+        ensures err { OnErr result ((self.new.replies ≡ self.old.replies) × (self.new.held ≡ [])) }
+    {
+        self.is_closed = true;
+        match fed {
+            Fed::Running => {
+                self.held = behind(alloc, stream, at)?;
+                self.is_closed = false;
+            }
+            Fed::BadBytes { .. } => {
+                let notice = notice(alloc)?;
+                self.replies.push(notice)?;
+            }
+            Fed::Unbound | Fed::Closed => {}
+        }
+        Ok(())
+    }
+
+    /// Takes the next bytes on a connection that is open.
+    fn take_in<N: NodeCalls>(
+        &mut self,
+        alloc: Global,
+        node: &mut N,
+        now: u32,
+        piece: &[u8],
+    ) -> Result<Fed, NoMemory>
+        ensures fed { IfOk result (λ fed. Feeds (record { node = N.node; met = N.met; follows = N.follows; faults = N.faults }) now piece.now self.old node.old fed self.new node.new) }
+        ensures part { OnErr result (CarriesPart (record { node = N.node; met = N.met; follows = N.follows; faults = N.faults }) now (self.old.held ++ piece.now) (session self.old node.old) (session self.new node.new)) }
+        ensures empty { OnErr result (self.new.held ≡ []) }
+        ensures open { AreSame (N.is_open node.old) (N.is_open node.new) }
+        ensures committed { AreSame (N.is_committed node.old) (N.is_committed node.new) }
+        ensures life { (N.node node.new).life ≡ (N.node node.old).life }
+    {
+        let mut stream = mem::replace(&mut self.held, Bytes::new(alloc));
+        if let Err(NoMemory) = stream.extend_from_slice(piece) {
+            return Err(NoMemory);
+        }
+        let Ok((fed, at)) = self.serve(alloc, node, now, stream.as_slice()) else {
+            return Err(NoMemory);
+        };
+        if let Err(NoMemory) = self.finish(alloc, fed, stream, at) {
+            return Err(NoMemory);
+        }
+        Ok(fed)
+    }
+
+    /// Takes the next bytes of the client, at the time `now` in seconds since 1970: carries out the
+    /// requests that the bytes so far make whole, in their order, up to the first unbind.
+    pub fn feed<N: NodeCalls>(
+        &mut self,
+        alloc: Global,
+        node: &mut N,
+        now: u32,
+        bytes: &[u8],
+    ) -> Result<Fed, NoMemory>
+        ensures closed { (result ≡ Ok Fed.Closed) ↔ (self.old.is_closed ≡ true) }
+        ensures unchanged { self.old.is_closed ≡ true → (self.new ≡ self.old) × (node.new ≡ node.old) }
+        ensures fed { self.old.is_closed ≡ false → IfOk result (λ fed. Feeds (record { node = N.node; met = N.met; follows = N.follows; faults = N.faults }) now bytes.now self.old node.old fed self.new node.new) }
+        ensures part { OnErr result (FeedsPart (record { node = N.node; met = N.met; follows = N.follows; faults = N.faults }) now bytes.now self.old node.old self.new node.new) }
+        ensures open { AreSame (N.is_open node.old) (N.is_open node.new) }
+        ensures committed { AreSame (N.is_committed node.old) (N.is_committed node.new) }
+        ensures life { (N.node node.new).life ≡ (N.node node.old).life }
+    {
+        if self.is_closed {
+            return Ok(Fed::Closed);
+        }
+        match self.take_in(alloc, node, now, bytes) {
+            Ok(fed) => Ok(fed),
+            Err(NoMemory) => {
+                self.is_closed = true;
+                Err(NoMemory)
+            }
+        }
+    }
+
+    /// The stream of the client has ended: an unfinished message is dropped, and the connection takes
+    /// no more bytes. Takes no memory.
+    pub fn closed<N: NodeCalls>(&mut self, _node: &mut N)
+        ensures conn { self.new ≡ record self.old { held = []; is_closed = true } }
+        ensures node { _node.new ≡ _node.old }
+    {
+        self.held.clear();
+        self.is_closed = true;
+    }
+}
+
+/// The bytes from this place on.
+fn behind(alloc: Global, stream: Bytes, at: usize) -> Result<Bytes, NoMemory>
+    requires { at ≤ length stream }
+    ensures { IfOk result (λ rest. rest ≡ drop at stream) }
+{
+    if at == 0 {
+        return Ok(stream);
+    }
+    Bytes::from_slice(alloc, &stream.as_slice()[at..])
+}

@@ -1,0 +1,33 @@
+ghost use Rattle.std.specs.Prelude.{◌≡◌, IfOk};
+ghost use Rattle.conn_core.specs.First.{IsFirst};
+
+use crate::fed::Fed;
+use crate::reply::is_unbind;
+use ldap_requests::{ReadFault, read_request};
+use ldap_types::{NoMemory, Request};
+use std::alloc::Global;
+
+/// What stands at the front of a stream.
+pub(crate) enum First {
+    /// A request that is carried out, and how many bytes it has.
+    Next(Request, usize),
+    /// None.
+    Ends(Fed),
+}
+
+/// Reads what stands at the front of a stream.
+pub(crate) fn read_first(alloc: Global, bytes: &[u8]) -> Result<First, NoMemory>
+    ensures { IfOk result (λ first. IsFirst bytes.now first) }
+{
+    match read_request(alloc, bytes) {
+        Ok((request, size)) => {
+            if is_unbind(&request.op) {
+                return Ok(First::Ends(Fed::Unbound));
+            }
+            Ok(First::Next(request, size))
+        }
+        Err(ReadFault::More) => Ok(First::Ends(Fed::Running)),
+        Err(ReadFault::NotLdap { place, why: _why }) => Ok(First::Ends(Fed::BadBytes { place })),
+        Err(ReadFault::NoMemory) => Err(NoMemory),
+    }
+}

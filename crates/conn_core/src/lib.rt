@@ -1,0 +1,19 @@
+//! Connections of clients: the requests that a stream of bytes makes whole are carried out, one after the
+//! other, by the calls of a node, and answered (RFC 4511, sections 4 and 5.2).
+#![tactic(auto)]
+
+mod conn;
+mod fed;
+mod first;
+mod laws;
+mod queue;
+mod reply;
+#[cfg(test)]
+mod tests;
+mod write;
+
+pub use conn::Conn;
+pub use fed::Fed;
+pub use laws::stream_laws;
+pub use ldap_types::{Bytes, Identity, NoMemory};
+pub use queue::ReplyQueue;

@@ -1,0 +1,171 @@
+ghost use Rattle.std.specs.Prelude.{◌≡◌, ◌≢◌, ◌∷◌, ◌++◌, [], Some, IfOk, OnOk, OnErr, ◌||◌, ◌==◌};
+ghost use Rattle.ldap_rules.specs.Case.{result_of};
+ghost use Rattle.ldap_replies.specs.Form.{reply_bytes};
+ghost use Rattle.repl_data.specs.Order.{bytes_eq};
+ghost use Rattle.ldap_rules.specs.Verdict.{is_update_control};
+ghost use Rattle.conn_core.specs.Stream.{is_unbind};
+ghost use Rattle.conn_core.specs.Serving.{reply_to, is_session, has_update, notice, used_up, begin_result, commit_result, plain_code, count_starved, IsTold};
+
+use ldap_replies::write_reply;
+use ldap_types::{Bytes, Code, Control, LdapResult, NoMemory, Op, Reply, ReplyOp};
+use node_core::{BeginFault, CommitFault};
+use std::alloc::Global;
+
+/// The names of the extended operations that open and close a session between servers.
+const START_NAME: &[u8] = b"2.999.389.1";
+
+const END_NAME: &[u8] = b"2.999.389.2";
+
+/// The name of the control of an update between servers.
+const UPDATE_CONTROL: &[u8] = b"2.999.389.3";
+
+/// The name of the notice of disconnection (RFC 4511, section 4.4.1).
+const NOTICE_NAME: &[u8] = b"1.3.6.1.4.1.1466.20036";
+
+/// A result that says its code alone.
+pub(crate) fn result_of(alloc: Global, code: Code) -> LdapResult
+    ensures { result ≡ result_of code.number }
+{
+    LdapResult {
+        code,
+        matched: Bytes::new(alloc),
+        text: Bytes::new(alloc),
+    }
+}
+
+fn same_bytes(a: &[u8], b: &[u8]) -> bool
+    ensures { result ≡ bytes_eq a.now b.now }
+{
+    a.cmp(b).is_eq()
+}
+
+pub(crate) fn is_session(oid: &[u8]) -> bool
+    ensures { result ≡ is_session oid.now }
+{
+    same_bytes(oid, START_NAME) || same_bytes(oid, END_NAME)
+}
+
+fn is_update(control: &Control) -> bool
+    ensures { result ≡ is_update_control control.now }
+{
+    same_bytes(control.oid.as_slice(), UPDATE_CONTROL)
+}
+
+pub(crate) fn has_update(controls: &[Control]) -> bool
+    ensures { result ≡ has_update controls.now }
+{
+    controls.iter().any(is_update)
+}
+
+pub(crate) fn is_unbind(op: &Op) -> bool
+    ensures { result ≡ is_unbind op.now }
+{
+    matches!(op, Op::Unbind)
+}
+
+/// The code of an answer that is the same on every node.
+pub(crate) fn plain_code(op: &Op) -> Code
+    ensures { result.number ≡ plain_code op.now }
+{
+    match op {
+        Op::Unbind | Op::Abandon { .. } => Code::SUCCESS,
+        Op::Extended { oid, .. } => {
+            if is_session(oid.as_slice()) {
+                Code::UNWILLING_TO_PERFORM
+            } else {
+                Code::PROTOCOL_ERROR
+            }
+        }
+        _ => Code::UNWILLING_TO_PERFORM,
+    }
+}
+
+fn used_up(alloc: Global) -> Result<LdapResult, NoMemory>
+    ensures { IsTold used_up result }
+{
+    let text = Bytes::from_slice(alloc, b"csn space used up".as_slice())?;
+    Ok(LdapResult {
+        code: Code::UNWILLING_TO_PERFORM,
+        matched: Bytes::new(alloc),
+        text,
+    })
+}
+
+/// What is answered where no ticket is given.
+pub(crate) fn begin_result(alloc: Global, fault: BeginFault) -> Result<LdapResult, NoMemory>
+    ensures { IsTold (begin_result fault) result }
+{
+    match fault {
+        BeginFault::NoMemory => Ok(result_of(alloc, Code::OTHER)),
+        BeginFault::Full => Ok(result_of(alloc, Code::BUSY)),
+        BeginFault::Exhausted { .. } => used_up(alloc),
+    }
+}
+
+/// What is answered where a ticket's request is not carried out.
+pub(crate) fn commit_result(alloc: Global, fault: CommitFault) -> Result<LdapResult, NoMemory>
+    ensures { (x : LdapResult) → commit_result fault ≡ Some x → IsTold x result }
+{
+    match fault {
+        CommitFault::NoMemory => Ok(result_of(alloc, Code::OTHER)),
+        CommitFault::Stale { .. } => Ok(result_of(alloc, Code::OTHER)),
+        CommitFault::Refused(result) => Ok(result),
+        CommitFault::Exhausted { .. } => used_up(alloc),
+        CommitFault::KeeperFault => Ok(result_of(alloc, Code::UNAVAILABLE)),
+    }
+}
+
+/// The response to an operation with this result, where it has one.
+pub(crate) fn reply_to(op: &Op, told: LdapResult) -> Option<ReplyOp>
+    ensures { result ≡ reply_to op.now told }
+{
+    match op {
+        Op::Bind(_) => Some(ReplyOp::Bind(told)),
+        Op::Unbind | Op::Abandon { .. } => None,
+        Op::Search(_) => Some(ReplyOp::Done(told)),
+        Op::Modify { .. } => Some(ReplyOp::Modify(told)),
+        Op::Add { .. } => Some(ReplyOp::Add(told)),
+        Op::Delete { .. } => Some(ReplyOp::Delete(told)),
+        Op::Rename { .. } => Some(ReplyOp::Rename(told)),
+        Op::Compare { .. } => Some(ReplyOp::Compare(told)),
+        Op::Extended { .. } => Some(ReplyOp::Extended {
+            result: told,
+            oid: None,
+            value: None,
+        }),
+    }
+}
+
+/// The bytes of a reply.
+pub(crate) fn bytes_of(alloc: Global, reply: &Reply) -> Result<Bytes, NoMemory>
+    ensures { IfOk result (λ bytes. bytes ≡ reply_bytes reply.now) }
+{
+    let mut bytes = Bytes::new(alloc);
+    write_reply(alloc, &mut bytes, reply)?;
+    Ok(bytes)
+}
+
+/// The notice of disconnection.
+#[tactic(auto, unfolding(crate::specs::Serving::notice))]
+pub(crate) fn notice(alloc: Global) -> Result<Bytes, NoMemory>
+    ensures { IfOk result (λ bytes. bytes ≡ notice) }
+{
+    let oid = Bytes::from_slice(alloc, NOTICE_NAME)?;
+    let op = ReplyOp::Extended {
+        result: result_of(alloc, Code::PROTOCOL_ERROR),
+        oid: Some(oid),
+        value: None,
+    };
+    bytes_of(alloc, &Reply { id: 0, op })
+}
+
+/// One more request that was answered for want of memory.
+pub(crate) fn count_starved(told: &LdapResult, starved: u64) -> u64
+    ensures { result ≡ count_starved told.now starved }
+{
+    if told.code.number == Code::OTHER.number {
+        starved.saturating_add(1)
+    } else {
+        starved
+    }
+}
