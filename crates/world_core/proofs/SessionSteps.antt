@@ -1,0 +1,89 @@
+-- What each event of a session comes to, from the parts that the code finds.
+use Rattle.std.proofs.Common.{◌≡◌, ◌≢◌, ℕ, zero, suc, ◌+◌, ◌-◌, ◌<◌, ◌≤◌, Bool, true, false, ◌&&◌, ◌==◌, List, [], ◌∷◌, ◌++◌, length, get_or, find, refl, sym, ap, subst, ◌∙◌, arith, Contains, Option, Some, None, eqb-true}
+use Rattle.std.specs.Prelude.{Result, Ok, Err, if◌then◌else◌, slice_get}
+use Rattle.std.proofs.lemmas.Bool.{and_parts}
+use Rattle.std.proofs.lemmas.Option.{slice_get-get_or}
+use Rattle.vector_core.proofs.Lists.{if_true, if_false}
+use Rattle.repl_data.specs.declared.csn.Csn.{Csn}
+use Rattle.repl_data.specs.declared.change.Update.{Update}
+use Rattle.vector_core.specs.declared.answers.Start.{Start}
+use Rattle.vector_core.specs.declared.answers.Applied.{Applied}
+use Rattle.vector_core.specs.declared.answers.ApplyFault.{ApplyFault}
+use Rattle.vector_core.specs.declared.answers.ApplyFault.TheVariants as apply
+use Rattle.vector_core.specs.declared.answers.AcquireFault.{AcquireFault}
+use Rattle.vector_core.specs.declared.answers.AcquireFault.TheVariants as acquire
+use Rattle.node_core.specs.Node.{Node, raised, vector_of}
+use Rattle.node_core.specs.Steps.{offer, apply_answer, after_apply, acquire_fault, after_acquire}
+use Rattle.node_core.specs.Calls.{Acquires, Applies}
+use Rattle.world_core.specs.declared.event.Happened.{Happened}
+use Rattle.world_core.specs.declared.event.Happened.TheVariants as what
+use Rattle.world_core.specs.World.{World, Session, Offered, Outcome, node_of, with_node, node_in, session_in, with_session, update_in, acquired, acquire_of, offered, offer_in, deliver}
+use Rattle.world_core.proofs.Advances.{find-Contains}
+use Rattle.world_core.proofs.Outcomes.{same_node}
+
+-- ---- acquire
+
+pub acquire-done : (w : World) (a b : ℕ) (left : Node) (nodes : List Node) (sessions : List Session) → acquire_of w a b ≡ None → left ≡ after_acquire (node_in w b) a None → nodes ≡ with_node w.nodes b left → sessions ≡ with_session (record { supplier = a; consumer = b; cursor = vector_of (node_in w b) }) w.sessions → acquired w a b (acquire_of w a b) ≡ record { world = record w { nodes = nodes; sessions = sessions }; happened = what.Acquired }
+acquire-done w a b left nodes sessions e l p q =
+    ap (λ o. acquired w a b o) e
+    ∙ ap (λ (x : List Node × List Session). record { world = record w { nodes = x.0; sessions = x.1 }; happened = what.Acquired })
+    (ap (λ ns. (ns, with_session (record { supplier = a; consumer = b; cursor = vector_of (node_in w b) }) w.sessions)) (ap (λ o. with_node w.nodes b (after_acquire (node_in w b) a o)) e ∙ ap (λ m. with_node w.nodes b m) (sym l) ∙ sym p)
+    ∙ ap (λ ss. (nodes, ss)) (sym q))
+
+acquires-failed : (met : Node) (start : Start) (now : ℕ) (fault : AcquireFault) (left : Node) → Acquires met start now (Err fault) left → (fault ≢ acquire.NoMemory) → (acquire_fault met start.suffix start.rid start.front now ≡ Some fault) × (left ≡ met)
+acquires-failed met start now acquire.NoMemory left h n = absurd (n refl)
+acquires-failed met start now acquire.WrongSuffix left h n = h
+acquires-failed met start now acquire.SameId left h n = h
+acquires-failed met start now (acquire.Busy rid) left h n = h
+acquires-failed met start now (acquire.Skew csn at) left h n = h
+
+pub acquire-refused : (w : World) (a b : ℕ) (fault : AcquireFault) (left : Node) (nodes : List Node) → Acquires (node_in w b) (record { suffix = (node_in w a).suffix.name; rid = a; front = vector_of (node_in w a) }) w.clock (Err fault) left → (fault ≢ acquire.NoMemory) → nodes ≡ with_node w.nodes b left → acquired w a b (acquire_of w a b) ≡ record { world = record w { nodes = nodes }; happened = what.AcquireRefused fault }
+acquire-refused w a b fault left nodes h n p =
+    let f = acquires-failed (node_in w b) (record { suffix = (node_in w a).suffix.name; rid = a; front = vector_of (node_in w a) }) w.clock fault left h n in
+    ap (λ o. acquired w a b o) f.0
+    ∙ ap (λ ns. record { world = record w { nodes = ns }; happened = what.AcquireRefused fault }) (sym (p ∙ ap (λ m. with_node w.nodes b m) f.1 ∙ same_node w.nodes b))
+
+-- ---- deliver
+
+pub applies-said : (met : Node) (from : ℕ) (u : Update) (now : ℕ) (answer : Result Applied ApplyFault) (left : Node) → Applies met from u now answer left → (answer ≢ Err apply.NoMemory) → (answer ≢ Err apply.KeeperFault) → (apply_answer met from u now false ≡ answer) × (left ≡ after_apply met u.change answer)
+applies-said met from u now (Ok applied) left h n k = h
+applies-said met from u now (Err apply.NoMemory) left h n k = absurd (n refl)
+applies-said met from u now (Err apply.KeeperFault) left h n k = absurd (k refl)
+applies-said met from u now (Err apply.NotHolder) left h n k = h
+applies-said met from u now (Err (apply.Malformed why)) left h n k = h
+applies-said met from u now (Err (apply.OwnUnknown csn)) left h n k = h
+applies-said met from u now (Err (apply.Skew csn at)) left h n k = h
+applies-said met from u now (Err (apply.Gap have prev)) left h n k = h
+applies-said met from u now (Err (apply.Missing id)) left h n k = h
+
+pub deliver-done : (w : World) (b : ℕ) (o : Offered) (answer : Result Applied ApplyFault) (left : Node) (nodes : List Node) (happened : Happened) → Applies (node_in w b) o.supplier o.update w.clock answer left → (answer ≢ Err apply.KeeperFault) → nodes ≡ with_node w.nodes b left → (happened ≡ what.Delivered answer) × (answer ≢ Err apply.NoMemory) → deliver w b (Some o) ≡ record { world = record w { nodes = nodes }; happened = happened }
+deliver-done w b o answer left nodes happened h k p t =
+    let s = applies-said (node_in w b) o.supplier o.update w.clock answer left h t.1 k in
+    ap (λ (x : List Node × Happened). record { world = record w { nodes = x.0 }; happened = x.1 })
+    (ap (λ x. (with_node w.nodes b (after_apply (node_in w b) o.update.change x), what.Delivered x)) s.0
+    ∙ ap (λ m. (with_node w.nodes b m, what.Delivered answer)) (sym s.1)
+    ∙ ap (λ ns. (ns, what.Delivered answer)) (sym p)
+    ∙ ap (λ x. (nodes, x)) (sym t.0))
+
+pub deliver-not : (met : Node) (from : ℕ) (u : Update) (now : ℕ) (answer : Result Applied ApplyFault) (left : Node) → Applies met from u now answer left → answer ≡ Err apply.NoMemory → left ≡ met
+deliver-not met from u now answer left h e = subst (λ a. Applies met from u now a left) e h
+
+-- ---- offer
+
+pub offer-done : (w : World) (a b : ℕ) (s : Session) → session_in w a b ≡ Some s → offer (node_in w a) s.cursor ≡ None → offer_in w a (session_in w a b) ≡ record { world = w; happened = what.OfferDone }
+offer-done w a b s e n = ap (λ o. offer_in w a o) e ∙ ap (λ o. offered w a s o) n
+
+session-names : (w : World) (a b : ℕ) (s : Session) → session_in w a b ≡ Some s → (s.supplier ≡ a) × (s.consumer ≡ b)
+session-names w a b s e =
+    let c = find-Contains (λ (x : Session). (x.supplier == a) && (x.consumer == b)) w.sessions s e in
+    let p = and_parts (s.supplier == a) (s.consumer == b) c.1 in
+    (eqb-true s.supplier a p.0, eqb-true s.consumer b p.1)
+
+pub offer-made : (w : World) (a b : ℕ) (s : Session) (u : Update) (cursor : List Csn) → session_in w a b ≡ Some s → offer (node_in w a) s.cursor ≡ Some u → cursor ≡ raised u.change.csn s.cursor → offer_in w a (session_in w a b) ≡ record { world = record w { sessions = with_session (record { supplier = a; consumer = b; cursor = cursor }) w.sessions; offered = w.offered ++ (record { supplier = a; update = u }) ∷ [] }; happened = what.Offered (length w.offered + 1) u.change.csn u.prev }
+offer-made w a b s u cursor e o r =
+    let n = session-names w a b s e in
+    ap (λ x. offer_in w a x) e ∙ ap (λ x. offered w a s x) o
+    ∙ ap (λ (x : Session). record { world = record w { sessions = with_session x w.sessions; offered = w.offered ++ (record { supplier = a; update = u }) ∷ [] }; happened = what.Offered (length w.offered + 1) u.change.csn u.prev })
+    (ap (λ z. record { supplier = z; consumer = s.consumer; cursor = raised u.change.csn s.cursor }) n.0
+    ∙ ap (λ z. record { supplier = a; consumer = z; cursor = raised u.change.csn s.cursor }) n.1
+    ∙ ap (λ z. record { supplier = a; consumer = b; cursor = z }) (sym r))

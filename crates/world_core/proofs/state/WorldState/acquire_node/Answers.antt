@@ -1,0 +1,28 @@
+use Rattle.std.proofs.Common.{◌≡◌, ◌∙◌, sym, ap, refl, subst, None}
+use Rattle.std.specs.Prelude.{Err}
+use Rattle.vector_core.specs.declared.answers.Start.{Start}
+use Rattle.node_core.specs.Steps.{acquire_fault, after_acquire}
+use Rattle.node_core.specs.Calls.{Acquires}
+use Rattle.world_core.specs.World.{node_of, node_in, with_session}
+use Rattle.world_core.specs.State.{world_of}
+use Rattle.world_core.proofs.SessionSteps.{acquire-done, acquire-refused}
+use Rattle.world_core.proofs.state.WorldState.acquire_node.Goals as goal
+
+pub returns-in-Ok : goal.returns-in-Ok
+returns-in-Ok c =
+    let w = world_of c.args.self.now in
+    let met = node_in w c.args.b in
+    let s = c.in-Ok.ensures.step in
+    acquire-done w c.args.a c.args.b _ c.acquire_at.new.nodes.items c.put_session.new.sessions.items
+    (ap (λ (x : Start). acquire_fault met x.suffix x.rid x.front w.clock) (sym c.requires.start) ∙ s.0)
+    (s.1 ∙ ap (λ (x : Start). after_acquire met x.rid None) c.requires.start)
+    c.in-Ok.ensures.others
+    (c.put_session.ensures ∙ ap (λ z. with_session (record { supplier = c.args.a; consumer = c.args.b; cursor = z }) w.sessions) c.requires.cursor)
+
+pub returns-in-Err : goal.returns-in-Err
+returns-in-Err c =
+    let w = world_of c.args.self.now in
+    acquire-refused w c.args.a c.args.b c.in-Err.fault (node_of c.acquire_at.new.nodes.items c.args.b) c.acquire_at.new.nodes.items
+    (subst (λ (x : Start). Acquires (node_in w c.args.b) x w.clock (Err c.in-Err.fault) (node_of c.acquire_at.new.nodes.items c.args.b)) c.requires.start c.in-Err.ensures.step)
+    (λ e. c.in-Err.ensures.memory (ap Err e))
+    c.in-Err.ensures.others

@@ -1,0 +1,17 @@
+use Rattle.std.proofs.Common.{◌≡◌, ◌∙◌, sym, ap, refl, subst, List}
+use Rattle.vector_core.proofs.Lists.{if_true, if_false}
+use Rattle.node_core.specs.Node.{Node}
+use Rattle.world_core.specs.declared.event.Happened.TheVariants as what
+use Rattle.world_core.specs.World.{Session, without_session}
+use Rattle.world_core.specs.State.{world_of}
+use Rattle.world_core.proofs.state.WorldState.release.Goals as goal
+
+pub returns-then-not-has_both : goal.returns-then-not-has_both
+returns-then-not-has_both c = if_false _ _ (sym c.has_both.ensures.value ∙ c.if-not-has_both.true)
+
+pub returns : goal.returns
+returns c =
+    let w = world_of c.args.self.now in
+    if_true _ _ (sym c.has_both.ensures.value ∙ c.if-not-has_both.false)
+    ∙ ap (λ (x : List Node × List Session). record { world = record w { nodes = x.0; sessions = x.1 }; happened = what.Released })
+    (ap (λ ns. (ns, without_session c.args.a c.args.b w.sessions)) (sym c.release_at.ensures) ∙ ap (λ ss. (c.release_at.new.nodes.items, ss)) (sym c.leave.ensures.left))

@@ -1,0 +1,31 @@
+-- A ticket of the world, as it is held.
+use Rattle.std.specs.Prelude.{ℕ, Bool, true, false, Option, Some, None}
+use Rattle.repl_data.specs.declared.csn.Csn.{Csn}
+use Rattle.pending_core.specs.Draw.{generator_at}
+use Rattle.node_core.specs.declared.fault.CommitFault.{CommitFault}
+use Rattle.node_core.specs.declared.fault.CommitFault.TheVariants as commit
+use Rattle.node_core.specs.Steps.{CommitAnswer, Stale, Refused, CommitExhausted}
+use Rattle.world_core.specs.declared.held.Stage.{Stage}
+use Rattle.world_core.specs.declared.held.Stage.TheVariants.{Open, Committed}
+
+-- how often the node had been started when it drew the ticket
+abbrev pub stage_life : Stage → ℕ
+stage_life (Open ticket) = ticket.life
+stage_life (Committed receipt) = receipt.life
+
+-- the CSN that is pending for it
+abbrev pub stage_csn : Stage → Csn
+stage_csn (Open ticket) = ticket.csn
+stage_csn (Committed receipt) = receipt.csn
+
+abbrev pub is_committed : Stage → Bool
+is_committed (Open ticket) = false
+is_committed (Committed receipt) = true
+
+-- the answer that a fault of a commit stands for; none where memory was wanting, or the keeper failed
+abbrev pub answer_of : CommitFault → Option CommitAnswer
+answer_of (commit.Stale life node_life) = Some (Stale node_life)
+answer_of (commit.Refused result) = Some (Refused result)
+answer_of (commit.Exhausted last) = Some (CommitExhausted (generator_at last))
+answer_of commit.NoMemory = None
+answer_of commit.KeeperFault = None

@@ -1,0 +1,51 @@
+-- A write that a client asks for on a connection: a begin, a commit, and then a settle or an abort.
+use Rattle.std.specs.Prelude.{ℕ, [], codes, Result, Ok, Err}
+use Rattle.repl_data.specs.declared.csn.Csn.{Csn}
+use Rattle.ldap_types.specs.declared.request.Request.{Request}
+use Rattle.ldap_types.specs.declared.reply.Identity.{Identity}
+use Rattle.ldap_types.specs.declared.reply.LdapResult.{LdapResult}
+use Rattle.ldap_rules.specs.Verdict.{Verdict}
+use Rattle.node_core.specs.declared.fault.BeginFault.{BeginFault}
+use Rattle.node_core.specs.declared.fault.BeginFault.TheVariants as begin
+use Rattle.node_core.specs.Steps.{Judge, verdict_at, begin_answer, CommitAnswer, Stale, Refused, CommitExhausted, KeeperFailed, Committed}
+use Rattle.world_core.specs.World.{World, node_in, begin_at, committing, commit_at, end_at, used_up, keeper_failed}
+
+-- 0 success, and 51 busy where as many CSNs are pending as can be
+abbrev pub success : LdapResult
+success = record { code = record { number = 0 }; matched = []; text = [] }
+
+abbrev pub busy : LdapResult
+busy = record { code = record { number = 51 }; matched = []; text = [] }
+
+-- what a client is answered to a commit. (A ticket that was drawn just now is never stale.)
+abbrev pub result_of : CommitAnswer → LdapResult
+result_of (Committed csn) = success
+result_of (Refused result) = result
+result_of (CommitExhausted last) = used_up
+result_of (KeeperFailed csn) = keeper_failed
+result_of (Stale life) = busy
+
+-- the CSN that is pending after a commit
+abbrev pub csn_after : Csn → CommitAnswer → Csn
+csn_after csn (Committed new) = new
+csn_after csn (KeeperFailed new) = new
+csn_after csn (Refused result) = csn
+csn_after csn (CommitExhausted last) = csn
+csn_after csn (Stale life) = csn
+
+-- commit, and then settle or abort, which are one step of the node
+abbrev pub finished : World → ℕ → Csn → Verdict → CommitAnswer → World × LdapResult
+finished w r csn verdict answer =
+    (end_at (commit_at w r (node_in w r).life csn verdict) r (node_in w r).life (csn_after csn answer), result_of answer)
+
+abbrev pub written_from : Judge → World → ℕ → Request → Identity → Result Csn BeginFault → World × LdapResult
+written_from judge w r request bound (Ok csn) =
+    let begun = begin_at w r in
+    let verdict = verdict_at judge (node_in begun r) request bound in
+    finished begun r csn verdict (committing begun r (node_in begun r).life csn verdict)
+written_from judge w r request bound (Err (begin.Exhausted last)) = (w, used_up)
+written_from judge w r request bound (Err begin.Full) = (w, busy)
+written_from judge w r request bound (Err begin.NoMemory) = (w, busy)
+
+abbrev pub write_in : Judge → World → ℕ → Request → Identity → World × LdapResult
+write_in judge w r request bound = written_from judge w r request bound (begin_answer (node_in w r) w.clock)

@@ -1,0 +1,28 @@
+//! Up to eight nodes, and what passes between them.
+#![tactic(auto)]
+
+mod commit;
+mod end;
+mod event;
+mod held;
+mod laws;
+mod nodes;
+mod offering;
+mod parts;
+mod places;
+mod sessions;
+mod start;
+mod state;
+mod step;
+mod told;
+mod world;
+mod write;
+
+pub use event::{CsnList, Event, Happened};
+pub use laws::{deed_laws, honest_laws, judge_laws, run_laws, write_laws};
+pub use parts::{Offered, Session};
+pub use sessions::session_laws;
+pub use world::World;
+
+#[cfg(test)]
+mod tests;

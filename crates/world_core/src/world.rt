@@ -1,0 +1,120 @@
+ghost use Rattle.std.specs.Prelude.{◌≡◌, ◌≤◌, true, is_some, option_map, IfOk, OnErr};
+ghost use Rattle.node_core.specs.Steps.{judge_view};
+ghost use Rattle.world_core.specs.World.{Ticket, new_world, is_node, step, ticket_in, session_in, update_in};
+ghost use Rattle.world_core.specs.Laws.{IsWrite, MayHappen, IsHonest};
+ghost use Rattle.world_core.specs.Write.{write_in};
+
+use crate::event::{Event, Happened};
+use crate::nodes::new_nodes;
+use crate::state::WorldState;
+use ldap_types::{Identity, LdapResult, Request};
+use repl_data::{NoMemory, Suffix};
+use std::alloc::Global;
+use std::marker::Model;
+
+/// Up to eight nodes, and what passes between them.
+///
+/// Contracts see the world of the definitions. It is always one that may come: each node is sound,
+/// and each ticket that is not committed is open at its node.
+#[derive(Debug)]
+pub struct World {
+    state: WorldState,
+}
+
+impl Model for World {
+    ghost use Rattle.std.specs.Coded.{codes};
+    ghost use Rattle.ldap_types.specs.contracts.request.Filter as filter;
+    ghost use Rattle.world_core.specs.World.{World};
+
+    ghost Value = { World };
+
+    ghost coded = { Prim.hlevel (codes, filter.the_row.coded) };
+
+    ghost use Rattle.world_core.specs.State.{world_of};
+    ghost use Rattle.world_core.specs.Taken.{IsKept};
+
+    ghost view = { λ w. world_of w.state };
+
+    ghost invariant = { λ w. IsKept (world_of w.state) };
+}
+
+impl Drop for World {
+    /// Gives up the tickets that are left.
+    fn drop(self) {
+        let World { state } = self;
+        state.end();
+    }
+}
+
+impl World {
+    /// A world of nodes 1 to `n`, whose directories have this suffix.
+    pub fn new(alloc: Global, n: u16, suffix: &Suffix) -> Result<World, NoMemory>
+        requires { n ≤ 8 }
+        ensures { IfOk result (λ world. world ≡ new_world suffix.now n) }
+    {
+        let nodes = new_nodes(alloc, n, suffix)?;
+        Ok(World {
+            state: WorldState {
+                nodes,
+                clock: 0,
+                tickets: Vec::new(alloc),
+                sessions: Vec::new(alloc),
+                offered: Vec::new(alloc),
+            },
+        })
+    }
+
+    /// Lets one event happen. Where memory is wanting, the world stays as it was.
+    pub fn step(&mut self, alloc: Global, event: Event) -> Result<Happened, NoMemory>
+        requires { MayHappen self.old event }
+        ensures ok { IfOk result (λ happened. step judge_view self.old event ≡ record { world = self.new; happened = happened }) }
+        ensures err { OnErr result (self.new ≡ self.old) }
+        ensures honest { IsHonest self.old → IsHonest self.new }
+    {
+        self.state.step(alloc, event)
+    }
+
+    /// What node `r` answers to a write that a client asks for: it begins a ticket, commits it, and
+    /// settles it or gives it up. Where memory is wanting, a CSN may have been drawn and given up.
+    pub fn write(
+        &mut self,
+        alloc: Global,
+        r: u16,
+        request: &Request,
+        bound: Identity,
+    ) -> Result<LdapResult, NoMemory>
+        requires node { is_node self.old r ≡ true }
+        requires write { IsWrite request.now bound }
+        ensures { IfOk result (λ answer. (self.new, answer) ≡ write_in judge_view self.old r request.now bound) }
+    {
+        self.state.write(alloc, r, request, bound)
+    }
+
+    /// There is a node `n`.
+    pub fn has_node(&self, n: u16) -> bool
+        ensures { result ≡ is_node self.now n }
+    {
+        self.state.has_node(n)
+    }
+
+    /// Whether ticket `k` is committed, if there is one. Looks at each ticket of a lower number.
+    pub fn ticket(&self, k: u32) -> Option<bool>
+        ensures { result ≡ option_map (λ (t : Ticket). t.committed) (ticket_in self.now k) }
+    {
+        self.state.ticket(k)
+    }
+
+    /// Node `a` has a session with node `b`.
+    pub fn session(&self, a: u16, b: u16) -> bool
+        ensures { result ≡ is_some (session_in self.now a b) }
+    {
+        self.state.session(a, b)
+    }
+
+    /// There is an update `u`.
+    pub fn has_update(&self, u: u64) -> bool
+        ensures { result ≡ is_some (update_in self.now u) }
+    {
+        self.state.has_update(u)
+    }
+}
