@@ -1,4 +1,6 @@
+pub mod Converging
+pub mod Leading
 pub mod Numbers
-pub mod Places
+pub mod Reached
 pub mod Reaching
 pub mod Runs

@@ -6,7 +6,7 @@ use Rattle.std.proofs.KnownBytes.{Appends-nil}
 use Rattle.dir_top.specs.declared.exec.Script.{Script}
 use Rattle.dir_top.specs.declared.status.Status.{Status}
 use Rattle.dir_top.specs.Output.{Told, Outcome}
-use Rattle.dir_top.specs.declared.world.World.{World}
+use Rattle.dir_top.specs.declared.state.State.{State}
 use Rattle.dir_top.specs.Script.{output}
 use Rattle.io_edge.specs.Edge.{AppendsFront}
 use Rattle.dir_top.specs.Running.{Reads, Reached}
@@ -24,7 +24,7 @@ begins (Some text) script now is = subst (λ (s : Script). Reads (output text) t
 
 -- what take_piece ensures of a piece
 abbrev pub Takes : List ℕ → Script → Option (List ℕ) → Script → Option (List ℕ) → Result (Unit {0}) Status → Type 0
-Takes piece script now new later r = (whole : Told (Option World)) (rest : List ℕ) (old : Option (List ℕ)) → Reads whole (piece ++ rest) script old now
+Takes piece script now new later r = (whole : Told (Option State)) (rest : List ℕ) (old : Option (List ℕ)) → Reads whole (piece ++ rest) script old now
     → MatchResult r (λ _. Reads whole rest new old later) (λ status. Outcome whole status old later)
 
 pub goes_on : (start left after : Option (List ℕ)) (piece : List ℕ) (script new : Script) (old now later : Option (List ℕ)) (r : Result (Unit {0}) Status)
@@ -39,7 +39,7 @@ goes_on (Some text) (Some xs) (Some ys) piece script new old now later (Err e) r
 
 -- what finish ensures
 abbrev pub Finishes : Script → Option (List ℕ) → Option (List ℕ) → Status → Type 0
-Finishes script now later status = (whole : Told (Option World)) (old : Option (List ℕ)) → Reads whole [] script old now → Outcome whole status old later
+Finishes script now later status = (whole : Told (Option State)) (old : Option (List ℕ)) → Reads whole [] script old now → Outcome whole status old later
 
 pub ends : (start left after : Option (List ℕ)) (script : Script) (old now later : Option (List ℕ)) (status : Status)
     → Reached start left script old now → Consumes left after [] → IsAtEnd after → Finishes script now later status

@@ -1,10 +1,12 @@
+pub mod Converges
 pub mod Line
+pub mod Message
 pub mod Output
 pub mod Print
-pub mod Request
+pub mod Report
 pub mod Running
 pub mod Script
+pub mod State
 pub mod Status
 pub mod Step
 pub mod Words
-pub mod World

@@ -72,6 +72,20 @@ told step s number (line ∷ lines) =
 abbrev pub told_of : {S : Type 0} → (S → ℕ → List ℕ → LineStep S) → S → List ℕ → Told S
 told_of step start bytes = told step start 1 (lines_of bytes)
 
+-- ---- the states of a script
+
+-- each state that the lines lead to, from this one on, has this property
+abbrev pub AllStates : {S : Type 0} → (S → ℕ → List ℕ → LineStep S) → (S → Type 0) → S → ℕ → List (List ℕ) → Type 0
+AllStates step P s number [] = P s
+AllStates step P s number (line ∷ lines) =
+    P s
+    × elim (step s number line) [
+      | GoesOn next text ↦ AllStates step P next (number + 1) lines
+      | Refuses why ↦ Unit {0}
+      | NotBuilt ↦ Unit {0}
+      | TooMany ↦ Unit {0}
+    ]
+
 -- ---- the status
 
 -- What a status says: the script ended, or stopped before this line, with its whole text written. After any other status but

@@ -3,7 +3,7 @@ use Rattle.std.specs.Prelude.{◌≡◌, ◌≤◌, ℕ, ◌+◌, ◌==◌, Bool
 use Rattle.std.specs.List.{list_any}
 use Rattle.std.specs.Str.Lines.{strip_carriage_return}
 use Rattle.std.specs.Io.KnownBytes.{Appends}
-use Rattle.dir_top.specs.declared.world.World.{World}
+use Rattle.dir_top.specs.declared.state.State.{State}
 use Rattle.dir_top.specs.declared.exec.Script.{Script}
 use Rattle.dir_top.specs.declared.status.Status.{Status}
 use Rattle.dir_top.specs.declared.status.Status.TheVariants.{Done, Usage, ScriptRefused, TooLong, ReadFault, WriteFault, NoMemory, NotYet}
@@ -11,13 +11,13 @@ use Rattle.dir_top.specs.Output.{Told, told, after_text, lines_of}
 use Rattle.dir_top.specs.Script.{script_line, line_limit, length_limit, output}
 
 -- What has become of the whole is what was printed so far, and then what becomes of the lines ahead; the sink got the former.
-pub record Stands (whole : Told (Option World)) (ahead : List (List ℕ)) (script : Script) (old now : Option (List ℕ)) : Type 0 where
+pub record Stands (whole : Told (Option State)) (ahead : List (List ℕ)) (script : Script) (old now : Option (List ℕ)) : Type 0 where
   pub printed : List ℕ
   pub same : whole ≡ after_text printed (told script_line script.world (script.lines + 1) ahead)
   pub written : Appends old now printed
 
 -- The line that is being read has no line feed so far, and these bytes follow it.
-pub record Reads (whole : Told (Option World)) (rest : List ℕ) (script : Script) (old now : Option (List ℕ)) : Type 0 where
+pub record Reads (whole : Told (Option State)) (rest : List ℕ) (script : Script) (old now : Option (List ℕ)) : Type 0 where
   pub part : list_any (λ b. b == 10) script.line ≡ false
   pub stands : Stands whole (lines_of (script.line ++ rest)) script old now
 

@@ -3,22 +3,24 @@ ghost use Rattle.std.specs.Option.{option_map};
 ghost use Rattle.std.specs.Io.KnownBytes.{Appends, IsAtEnd};
 ghost use Rattle.io_edge.specs.Causes.{HasCause, Rose};
 ghost use Rattle.io_edge.specs.Edge.{AppendsFront};
-ghost use Rattle.dir_top.specs.declared.world.World.{World};
+ghost use Rattle.dir_top.specs.declared.state.State.{State};
 ghost use Rattle.std.specs.Str.Lines.{strip_carriage_return};
 ghost use Rattle.dir_top.specs.Step.{meant};
 ghost use Rattle.dir_top.specs.Line.{line_of};
 ghost use Rattle.dir_top.specs.Output.{Outcome, Told, before_feed, content_of};
 ghost use Rattle.dir_top.specs.Script.{step_of, line_limit, length_limit, output};
+ghost use Rattle.dir_top.specs.Converges.{ConvergesThroughout};
 ghost use Rattle.dir_top.specs.Running.{Stands, Reads, IsWithin, content_at, IsFromLine, IsFromRun, wrong_word};
 
 use crate::line::read_line;
 use crate::script::{Step, take_line};
+use crate::state::State;
 use crate::status::Status;
 use crate::why::LineWhy;
-use crate::world::World;
 use io_edge::{Failed, Sink, Source};
 use repl_data::{Bytes, NoMemory};
 use std::alloc::Global;
+use world_core::judge_laws;
 
 /// The greatest number of lines of a script.
 const LINE_LIMIT: u32 = 1_000_000;
@@ -26,13 +28,13 @@ const LINE_LIMIT: u32 = 1_000_000;
 /// A script that is being read: the world so far, the part of a line that has come, and how many lines came before it.
 #[derive(Debug, Drop)]
 pub(crate) struct Script {
-    pub world: Option<World>,
+    pub world: Option<State>,
     pub line: Bytes,
     pub lines: u32,
 }
 
 /// Carries out the line that is written so, or says why the script stops before it.
-fn carry_text(alloc: Global, world: &mut Option<World>, text: &[u8]) -> Result<Step, NoMemory>
+fn carry_text(alloc: Global, world: &mut Option<State>, text: &[u8]) -> Result<Step, NoMemory>
     ensures { IfOk result (λ step. step_of world.old (line_of text.now) ≡ meant step world.new) }
 {
     let Some(line) = read_line(alloc, text)? else {
@@ -82,7 +84,7 @@ impl Script {
     ) -> Result<(), Status>
         requires limit { self.old.lines ≤ line_limit }
         requires length { length self.old.line ≤ length_limit }
-        ensures run { (whole : Told (Option World)) (raw : List ℕ) (after : List (List ℕ)) (old : Option (List ℕ)) →
+        ensures run { (whole : Told (Option State)) (raw : List ℕ) (after : List (List ℕ)) (old : Option (List ℕ)) →
             before_feed raw ≡ self.old.line → content_of raw ≡ content_at is_ended self.old.line →
             Stands whole (raw ∷ after) self.old old (K.contents sink.old) →
             MatchResult result (λ _. Stands whole after self.new old (K.contents sink.new)) (λ status. Outcome whole status old (K.contents sink.new)) }
@@ -116,7 +118,7 @@ impl Script {
     /// What is told of a line that is too long.
     fn long_line(&self) -> Status
         requires limit { self.now.lines ≤ line_limit }
-        ensures run { (whole : Told (Option World)) (raw : List ℕ) (after : List (List ℕ)) (old now : Option (List ℕ)) →
+        ensures run { (whole : Told (Option State)) (raw : List ℕ) (after : List (List ℕ)) (old now : Option (List ℕ)) →
             length_limit < length (before_feed raw) → Stands whole (raw ∷ after) self.now old now → Outcome whole result old now }
         ensures kind { IsFromLine result }
         ensures unwritten { result ≡ Status.WriteFault → ⊥ }
@@ -134,7 +136,7 @@ impl Script {
     /// Takes the next byte of the script.
     fn take_byte<K: Sink>(&mut self, alloc: Global, byte: u8, sink: &mut K) -> Result<(), Status>
         requires { IsWithin self.old }
-        ensures run { (whole : Told (Option World)) (rest : List ℕ) (old : Option (List ℕ)) →
+        ensures run { (whole : Told (Option State)) (rest : List ℕ) (old : Option (List ℕ)) →
             Reads whole (byte ∷ rest) self.old old (K.contents sink.old) →
             MatchResult result (λ _. Reads whole rest self.new old (K.contents sink.new)) (λ status. Outcome whole status old (K.contents sink.new)) }
         ensures within { OnOk result (IsWithin self.new) }
@@ -162,7 +164,7 @@ impl Script {
         sink: &mut K,
     ) -> Result<(), Status>
         requires { IsWithin self.old }
-        ensures run { (whole : Told (Option World)) (rest : List ℕ) (old : Option (List ℕ)) →
+        ensures run { (whole : Told (Option State)) (rest : List ℕ) (old : Option (List ℕ)) →
             Reads whole (piece.now ++ rest) self.old old (K.contents sink.old) →
             MatchResult result (λ _. Reads whole rest self.new old (K.contents sink.new)) (λ status. Outcome whole status old (K.contents sink.new)) }
         ensures within { OnOk result (IsWithin self.new) }
@@ -181,7 +183,7 @@ impl Script {
     /// Takes the end of the script. A last line without LF counts.
     fn finish<K: Sink>(&mut self, alloc: Global, sink: &mut K) -> Status
         requires { IsWithin self.old }
-        ensures run { (whole : Told (Option World)) (old : Option (List ℕ)) →
+        ensures run { (whole : Told (Option State)) (old : Option (List ℕ)) →
             Reads whole [] self.old old (K.contents sink.old) → Outcome whole result old (K.contents sink.new) }
         ensures later { K.faults sink.old ≤ K.faults sink.new }
         ensures cause { result ≡ Status.WriteFault → Rose (K.faults sink.old) (K.faults sink.new) }
@@ -258,6 +260,13 @@ fn wrong_word(words: &[String]) -> Option<&str>
     }
 }
 
+/// What holds of every script.
+fn script_laws()
+    ensures converges { (script : List ℕ) → ConvergesThroughout script }
+{
+    judge_laws();
+}
+
 /// Carries out the script that the source gives, line after line, and prints to the sink.
 ///
 /// The words are those of the command line without the program's name; they are to be `exec` alone.
@@ -281,10 +290,15 @@ pub fn exec_main<S: Source, K: Sink>(
         Outcome (output script) result (K.contents sink.old) (K.contents sink.new))) }
     ensures ended { result ≡ Status.Done → IsAtEnd (S.left source.new) }
 
+    // Before and after each line of the script the vectors are exact, each node holds a prefix of each originator's
+    // changes, and nodes with equal vectors and nothing pending have the same changes and show the same entries.
+    ensures converges { IfSome (S.left source.old) ConvergesThroughout }
+
     // A fault is told only where the source or the sink had one in this call.
     ensures read { result ≡ Status.ReadFault → Rose (S.faults source.old) (S.faults source.new) }
     ensures write { result ≡ Status.WriteFault → Rose (K.faults sink.old) (K.faults sink.new) }
 {
+    script_laws();
     let Some(word) = wrong_word(words) else {
         return run_script(alloc, source, sink);
     };

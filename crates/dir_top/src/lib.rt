@@ -3,15 +3,16 @@
 
 mod exec;
 mod line;
+mod message;
 mod print;
-mod request;
+mod report;
 mod script;
+mod state;
 mod status;
 #[cfg(test)]
 mod tests;
 mod why;
 mod words;
-mod world;
 
 pub use exec::exec_main;
 pub use status::Status;

@@ -1,13 +1,25 @@
-ghost use Rattle.std.specs.Prelude.{◌≡◌, Some, IfOk, IsNone};
-ghost use Rattle.dir_top.specs.Script.{line_step};
-ghost use Rattle.dir_top.specs.Step.{meant};
+ghost use Rattle.std.specs.Prelude.{◌≡◌, Some, None, true, false, not, ◌∷◌, [], IfOk, IsNone, OnOk};
+ghost use Rattle.ldap_rules.specs.Bind.{bind_verdict};
+ghost use Rattle.world_core.specs.World.{ticket_in};
+ghost use Rattle.dir_top.specs.declared.state.State.{State};
+ghost use Rattle.dir_top.specs.State.{connection_in};
+ghost use Rattle.dir_top.specs.Message.{request_of, is_built_write, is_built_request};
+ghost use Rattle.dir_top.specs.Script.{TheNode, TheConnection, NewConnection, TheTicket, NewTicket, TheUpdate, why_name, why_state, first_why, is_committed, why_if, is_one_write, is_write_to_come, is_to_come, is_started, line_step, owes, start_by, start_of, after_bind, write_by, answer_op};
+ghost use Rattle.dir_top.specs.Step.{meant, IsEventLine};
 
 use crate::line::Line;
-use crate::request::read_request;
+use crate::message::{is_built_request, is_built_write, is_write, request_of};
+use crate::report::{
+    abort_text, acquire_text, commit_text, deliver_text, dump_text, offer_text, out_add, out_bind,
+    release_text, settle_text, start_text, vector_text,
+};
+use crate::state::{Connection, Owed, State};
 use crate::why::LineWhy;
-use crate::world::{Connection, World};
+use ldap_rules::judge_bind;
+use ldap_types::{BindRequest, Op, Request};
 use repl_data::{Bytes, NoMemory};
 use std::alloc::Global;
+use world_core::{Event, Happened};
 
 /// What became of a line.
 #[derive(Debug, Drop)]
@@ -18,97 +30,510 @@ pub(crate) enum Step {
     NotBuilt,
 }
 
-/// Carries out a line where there are no nodes yet.
-fn take_first(alloc: Global, world: &mut Option<World>, line: &Line) -> Step
-    requires { IsNone world.old }
-    ensures { line_step world.old line.now ≡ meant result world.new }
-{
-    match line {
-        Line::Nothing => Step::GoesOn(Bytes::new(alloc)),
-        Line::Nodes { n } => {
-            if *n == 1 {
-                *world = Some(World::new(alloc));
-                Step::GoesOn(Bytes::new(alloc))
-            } else {
-                Step::NotBuilt
-            }
+impl State {
+    fn no_node(&self, n: u16) -> Option<LineWhy>
+        ensures { result ≡ why_name self.now (TheNode n) }
+    {
+        if self.world.has_node(n) {
+            None
+        } else {
+            Some(LineWhy::Node { n })
         }
-        Line::Clock { .. } | Line::Connect { .. } | Line::Input { .. } | Line::Dump { .. } =>
-            Step::Refuses(LineWhy::First),
-        _ => Step::NotBuilt,
+    }
+
+    fn no_connection(&self, c: u16) -> Option<LineWhy>
+        ensures { result ≡ why_name self.now (TheConnection c) }
+    {
+        if self.connection(c).is_open() {
+            None
+        } else {
+            Some(LineWhy::Conn { c })
+        }
+    }
+
+    fn connection_taken(&self, c: u16) -> Option<LineWhy>
+        ensures { result ≡ why_name self.now (NewConnection c) }
+    {
+        if self.connection(c).is_open() {
+            Some(LineWhy::ConnTaken { c })
+        } else {
+            None
+        }
+    }
+
+    fn no_ticket(&self, k: u32) -> Option<LineWhy>
+        ensures { result ≡ why_name self.now (TheTicket k) }
+    {
+        match self.world.ticket(k) {
+            Some(_) => None,
+            None => Some(LineWhy::Ticket { k }),
+        }
+    }
+
+    fn ticket_taken(&self, k: u32) -> Option<LineWhy>
+        ensures { result ≡ why_name self.now (NewTicket k) }
+    {
+        match self.world.ticket(k) {
+            Some(_) => Some(LineWhy::TicketTaken { k }),
+            None => None,
+        }
+    }
+
+    fn no_update(&self, u: u64) -> Option<LineWhy>
+        ensures { result ≡ why_name self.now (TheUpdate u) }
+    {
+        if self.world.has_update(u) {
+            None
+        } else {
+            Some(LineWhy::Update { u })
+        }
+    }
+
+    /// The ticket is committed where it should not be, or is not where it should.
+    fn wrong_state(&self, k: u32, wanted: bool) -> Option<LineWhy>
+        ensures { result ≡ why_state k wanted (is_committed self.now k) }
+    {
+        match self.world.ticket(k) {
+            Some(committed) => {
+                if committed == wanted {
+                    None
+                } else {
+                    Some(LineWhy::State { k })
+                }
+            }
+            None => None,
+        }
+    }
+
+    /// The first reason against a line on two nodes.
+    fn no_pair(&self, a: u16, b: u16) -> Option<LineWhy>
+        ensures { result ≡ first_why (why_name self.now (TheNode a) ∷ why_name self.now (TheNode b) ∷ []) }
+    {
+        match self.no_node(a) {
+            Some(why) => Some(why),
+            None => self.no_node(b),
+        }
     }
 }
 
-impl World {
-    fn connect(&mut self, alloc: Global, c: u16, n: u16) -> Step
-        ensures { line_step (Some self.old) (Line.Connect c n) ≡ meant result (Some self.new) }
+impl State {
+    fn connect(&mut self, alloc: Global, c: u16, n: u16) -> Result<Step, NoMemory>
+        ensures { IfOk result (λ step. line_step (Some self.old) (Line.Connect c n) ≡ meant step (Some self.new)) }
     {
-        if self.connection(c).is_open() {
-            return Step::Refuses(LineWhy::ConnTaken { c });
+        if let Some(why) = self.connection_taken(c) {
+            return Ok(Step::Refuses(why));
         }
-        if n != 1 {
-            return Step::Refuses(LineWhy::Node { n });
+        if let Some(why) = self.no_node(n) {
+            return Ok(Step::Refuses(why));
         }
-        self.set_connection(c, Connection::Anonymous);
-        Step::GoesOn(Bytes::new(alloc))
+        self.open(c, n)?;
+        Ok(Step::GoesOn(Bytes::new(alloc)))
+    }
+
+    fn set_clock(&mut self, alloc: Global, time: u32) -> Result<Step, NoMemory>
+        ensures { IfOk result (λ step. line_step (Some self.old) (Line.Clock time) ≡ meant step (Some self.new)) }
+    {
+        self.world.step(alloc, Event::Clock { time })?;
+        Ok(Step::GoesOn(Bytes::new(alloc)))
+    }
+
+    fn commit(&mut self, alloc: Global, k: u32) -> Result<Step, NoMemory>
+        ensures { IfOk result (λ step. line_step (Some self.old) (Line.Commit k) ≡ meant step (Some self.new)) }
+    {
+        if let Some(why) = self.no_ticket(k) {
+            return Ok(Step::Refuses(why));
+        }
+        if let Some(why) = self.wrong_state(k, false) {
+            return Ok(Step::Refuses(why));
+        }
+        let happened = self.world.step(alloc, Event::Commit { k })?;
+        Ok(Step::GoesOn(commit_text(alloc, k, &happened)?))
+    }
+
+    fn settle(&mut self, alloc: Global, k: u32) -> Result<Step, NoMemory>
+        ensures { IfOk result (λ step. line_step (Some self.old) (Line.Settle k) ≡ meant step (Some self.new)) }
+    {
+        if let Some(why) = self.no_ticket(k) {
+            return Ok(Step::Refuses(why));
+        }
+        if let Some(why) = self.wrong_state(k, true) {
+            return Ok(Step::Refuses(why));
+        }
+        let owed = self.owed_for(k);
+        let happened = self.world.step(alloc, Event::Settle { k })?;
+        let text = settle_text(alloc, self, owed, k, &happened)?;
+        self.forget(alloc, k);
+        Ok(Step::GoesOn(text))
+    }
+
+    fn abort(&mut self, alloc: Global, k: u32) -> Result<Step, NoMemory>
+        ensures { IfOk result (λ step. line_step (Some self.old) (Line.Abort k) ≡ meant step (Some self.new)) }
+    {
+        if let Some(why) = self.no_ticket(k) {
+            return Ok(Step::Refuses(why));
+        }
+        if let Some(why) = self.wrong_state(k, false) {
+            return Ok(Step::Refuses(why));
+        }
+        let owed = self.owed_for(k);
+        let happened = self.world.step(alloc, Event::Abort { k })?;
+        let text = abort_text(alloc, self, owed, k, &happened)?;
+        self.forget(alloc, k);
+        Ok(Step::GoesOn(text))
+    }
+
+    fn acquire(&mut self, alloc: Global, a: u16, b: u16) -> Result<Step, NoMemory>
+        ensures { IfOk result (λ step. line_step (Some self.old) (Line.Acquire a b) ≡ meant step (Some self.new)) }
+    {
+        if let Some(why) = self.no_pair(a, b) {
+            return Ok(Step::Refuses(why));
+        }
+        let happened = self.world.step(alloc, Event::Acquire { a, b })?;
+        Ok(Step::GoesOn(acquire_text(alloc, a, b, &happened)?))
+    }
+
+    fn release(&mut self, alloc: Global, a: u16, b: u16) -> Result<Step, NoMemory>
+        ensures { IfOk result (λ step. line_step (Some self.old) (Line.Release a b) ≡ meant step (Some self.new)) }
+    {
+        if let Some(why) = self.no_pair(a, b) {
+            return Ok(Step::Refuses(why));
+        }
+        self.world.step(alloc, Event::Release { a, b })?;
+        Ok(Step::GoesOn(release_text(alloc, a, b)?))
+    }
+
+    fn offer(&mut self, alloc: Global, a: u16, b: u16) -> Result<Step, NoMemory>
+        ensures { IfOk result (λ step. line_step (Some self.old) (Line.Offer a b) ≡ meant step (Some self.new)) }
+    {
+        if let Some(why) = self.no_pair(a, b) {
+            return Ok(Step::Refuses(why));
+        }
+        if !self.world.session(a, b) {
+            return Ok(Step::Refuses(LineWhy::Session { a, b }));
+        }
+        let happened = self.world.step(alloc, Event::Offer { a, b })?;
+        Ok(Step::GoesOn(offer_text(alloc, a, b, &happened)?))
+    }
+
+    fn deliver(&mut self, alloc: Global, b: u16, u: u64) -> Result<Step, NoMemory>
+        ensures { IfOk result (λ step. line_step (Some self.old) (Line.Deliver b u) ≡ meant step (Some self.new)) }
+    {
+        if let Some(why) = self.no_node(b) {
+            return Ok(Step::Refuses(why));
+        }
+        if let Some(why) = self.no_update(u) {
+            return Ok(Step::Refuses(why));
+        }
+        let happened = self.world.step(alloc, Event::Deliver { b, u })?;
+        Ok(Step::GoesOn(deliver_text(alloc, b, u, &happened)?))
+    }
+
+    fn vector(&mut self, alloc: Global, n: u16) -> Result<Step, NoMemory>
+        ensures { IfOk result (λ step. line_step (Some self.old) (Line.Vector n) ≡ meant step (Some self.new)) }
+    {
+        if let Some(why) = self.no_node(n) {
+            return Ok(Step::Refuses(why));
+        }
+        let happened = self.world.step(alloc, Event::Vector { n })?;
+        Ok(Step::GoesOn(vector_text(alloc, n, &happened)?))
+    }
+
+    fn dump(&mut self, alloc: Global, n: u16) -> Result<Step, NoMemory>
+        ensures { IfOk result (λ step. line_step (Some self.old) (Line.Dump n) ≡ meant step (Some self.new)) }
+    {
+        if let Some(why) = self.no_node(n) {
+            return Ok(Step::Refuses(why));
+        }
+        let happened = self.world.step(alloc, Event::Dump { n })?;
+        Ok(Step::GoesOn(dump_text(alloc, n, &happened)?))
+    }
+}
+
+impl State {
+    /// A bind changes whom the connection speaks for.
+    fn answer_bind(
+        &mut self,
+        alloc: Global,
+        c: u16,
+        id: u32,
+        bind: &BindRequest,
+    ) -> Result<Bytes, NoMemory>
+        ensures { IfOk result (λ text. (self.new, text) ≡ after_bind self.old c id (connection_in self.old c) (bind_verdict bind.now)) }
+    {
+        let (identity, answer) = judge_bind(alloc, bind)?;
+        let text = out_bind(alloc, c, id, answer)?;
+        self.bind(c, identity);
+        Ok(text)
+    }
+
+    /// A write goes to the node of its connection.
+    fn answer_write(&mut self, alloc: Global, c: u16, request: &Request) -> Result<Bytes, NoMemory>
+        requires { is_built_write request.now ≡ true }
+        ensures { IfOk result (λ text. (self.new, text) ≡ write_by self.old c request.now (connection_in self.old c)) }
+    {
+        let Connection::Open { node, identity, .. } = self.connection(c) else {
+            return Ok(Bytes::new(alloc));
+        };
+        if !self.world.has_node(node) {
+            return Ok(Bytes::new(alloc));
+        }
+        let answer = self.world.write(alloc, node, request, identity)?;
+        out_add(alloc, c, request.id, answer)
+    }
+
+    /// Answers a request on an open connection.
+    fn answer(&mut self, alloc: Global, c: u16, request: &Request) -> Result<Bytes, NoMemory>
+        requires { is_built_request request.now ≡ true }
+        ensures { IfOk result (λ text. (self.new, text) ≡ answer_op self.old c request.now request.now.op) }
+    {
+        match &request.op {
+            Op::Bind(bind) => self.answer_bind(alloc, c, request.id, bind),
+            _ => self.answer_write(alloc, c, request),
+        }
     }
 
     fn input(&mut self, alloc: Global, c: u16, bytes: &Bytes) -> Result<Step, NoMemory>
         ensures { IfOk result (λ step. line_step (Some self.old) (Line.Input c bytes.now) ≡ meant step (Some self.new)) }
     {
-        if !self.connection(c).is_open() {
-            return Ok(Step::Refuses(LineWhy::Conn { c }));
+        if let Some(why) = self.no_connection(c) {
+            return Ok(Step::Refuses(why));
         }
-        let Some(request) = read_request(alloc, bytes.as_slice())? else {
+        let Some(request) = request_of(alloc, bytes.as_slice())? else {
             return Ok(Step::NotBuilt);
         };
-        Ok(Step::GoesOn(self.answer(alloc, c, request)?))
-    }
-
-    fn list(&self, alloc: Global, n: u16) -> Result<Step, NoMemory>
-        ensures { IfOk result (λ step. line_step (Some self.now) (Line.Dump n) ≡ meant step (Some self.now)) }
-    {
-        if n != 1 {
-            return Ok(Step::Refuses(LineWhy::Node { n }));
+        if !is_built_request(&request) {
+            return Ok(Step::NotBuilt);
         }
-        Ok(Step::GoesOn(self.dump(alloc, n)?))
+        Ok(Step::GoesOn(self.answer(alloc, c, &request)?))
+    }
+}
+
+fn is_started(happened: &Happened) -> bool
+    ensures { result ≡ is_started happened.now }
+{
+    match happened {
+        Happened::Started { .. } => true,
+        _ => false,
+    }
+}
+
+impl State {
+    /// The client of this connection waits for the ticket, if it was begun.
+    fn owe(&mut self, happened: &Happened, owed: Owed) -> Result<(), NoMemory>
+        ensures { OnOk result (self.new ≡ record self.old { owed = owes happened.now self.old.owed owed }) }
+    {
+        if is_started(happened) {
+            self.owed.push(owed)?;
+        }
+        Ok(())
     }
 
-    /// Carries out a line where the node is there.
+    /// Begins a ticket for a write on an open connection.
+    fn begin(&mut self, alloc: Global, k: u32, c: u16, request: Request) -> Result<Bytes, NoMemory>
+        requires free { ticket_in self.old.world k ≡ None }
+        requires write { is_built_write request ≡ true }
+        ensures { IfOk result (λ text. (self.new, text) ≡ start_by self.old k c request (connection_in self.old c)) }
+    {
+        let Connection::Open {
+            node,
+            instance,
+            identity,
+        } = self.connection(c)
+        else {
+            return Ok(Bytes::new(alloc));
+        };
+        let owed = Owed {
+            ticket: k,
+            connection: c,
+            instance,
+            id: request.id,
+        };
+        let event = Event::Start {
+            k,
+            n: node,
+            request,
+            bound: identity,
+        };
+        let happened = self.world.step(alloc, event)?;
+        self.owe(&happened, owed)?;
+        start_text(alloc, k, c, owed.id, &happened)
+    }
+
+    /// The first reason against a ticket for the write of a connection.
+    fn no_start(&self, k: u32, c: u16, request: &Option<Request>) -> Option<LineWhy>
+        ensures { result ≡ first_why (why_name self.now (NewTicket k) ∷ why_name self.now (TheConnection c) ∷ why_if (not (is_one_write request.now)) LineWhy.Request ∷ []) }
+    {
+        if let Some(why) = self.ticket_taken(k) {
+            return Some(why);
+        }
+        if let Some(why) = self.no_connection(c) {
+            return Some(why);
+        }
+        if is_one_write(request) {
+            None
+        } else {
+            Some(LineWhy::Request)
+        }
+    }
+
+    /// Begins a ticket for the write, if there is one.
+    fn begin_write(
+        &mut self,
+        alloc: Global,
+        k: u32,
+        c: u16,
+        request: Option<Request>,
+    ) -> Result<Bytes, NoMemory>
+        requires free { ticket_in self.old.world k ≡ None }
+        requires one { is_one_write request ≡ true }
+        requires built { is_write_to_come request ≡ false }
+        ensures { IfOk result (λ text. (self.new, text) ≡ start_of self.old k c request) }
+    {
+        match request {
+            Some(request) => self.begin(alloc, k, c, request),
+            None => Ok(Bytes::new(alloc)),
+        }
+    }
+
+    fn start(&mut self, alloc: Global, k: u32, c: u16, bytes: &Bytes) -> Result<Step, NoMemory>
+        ensures { IfOk result (λ step. line_step (Some self.old) (Line.StartWrite k c bytes.now) ≡ meant step (Some self.new)) }
+    {
+        let request = request_of(alloc, bytes.as_slice())?;
+        if is_write_to_come(&request) {
+            return Ok(Step::NotBuilt);
+        }
+        if let Some(why) = self.no_start(k, c, &request) {
+            return Ok(Step::Refuses(why));
+        }
+        Ok(Step::GoesOn(self.begin_write(alloc, k, c, request)?))
+    }
+}
+
+impl State {
+    /// Carries out a line on a ticket, on two nodes, or on one.
+    fn take_event(&mut self, alloc: Global, line: &Line) -> Result<Step, NoMemory>
+        requires { IsEventLine line.now }
+        ensures { IfOk result (λ step. line_step (Some self.old) line.now ≡ meant step (Some self.new)) }
+    {
+        match line {
+            Line::Commit { k } => self.commit(alloc, *k),
+            Line::Settle { k } => self.settle(alloc, *k),
+            Line::Abort { k } => self.abort(alloc, *k),
+            Line::Acquire { a, b } => self.acquire(alloc, *a, *b),
+            Line::Release { a, b } => self.release(alloc, *a, *b),
+            Line::Offer { a, b } => self.offer(alloc, *a, *b),
+            Line::Deliver { b, u } => self.deliver(alloc, *b, *u),
+            Line::Vector { n } => self.vector(alloc, *n),
+            Line::Dump { n } => self.dump(alloc, *n),
+            _ => Ok(Step::NotBuilt),
+        }
+    }
+
+    /// Carries out a line where there are nodes.
     fn take(&mut self, alloc: Global, line: &Line) -> Result<Step, NoMemory>
         ensures { IfOk result (λ step. line_step (Some self.old) line.now ≡ meant step (Some self.new)) }
     {
         match line {
             Line::Nothing => Ok(Step::GoesOn(Bytes::new(alloc))),
-            Line::Nodes { n } => {
-                if *n == 1 {
-                    Ok(Step::Refuses(LineWhy::First))
-                } else {
-                    Ok(Step::NotBuilt)
-                }
-            }
-            Line::Clock { time } => {
-                self.clock = *time;
-                Ok(Step::GoesOn(Bytes::new(alloc)))
-            }
-            Line::Connect { c, n } => Ok(self.connect(alloc, *c, *n)),
+            Line::Nodes { n } => Ok(second_nodes(*n)),
+            Line::Clock { time } => self.set_clock(alloc, *time),
+            Line::Connect { c, n } => self.connect(alloc, *c, *n),
             Line::Input { c, bytes } => self.input(alloc, *c, bytes),
-            Line::Dump { n } => self.list(alloc, *n),
-            _ => Ok(Step::NotBuilt),
+            Line::StartWrite { k, c, bytes } => self.start(alloc, *k, *c, bytes),
+            _ => self.take_event(alloc, line),
         }
+    }
+}
+
+/// A `nodes` where there are nodes.
+fn second_nodes(n: u16) -> Step
+    ensures { (state : State) → line_step (Some state) (Line.Nodes n) ≡ meant result (Some state) }
+{
+    if n <= 8 {
+        Step::Refuses(LineWhy::First)
+    } else {
+        Step::NotBuilt
+    }
+}
+
+/// The first `nodes`.
+fn first_nodes(alloc: Global, state: &mut Option<State>, n: u16) -> Result<Step, NoMemory>
+    requires { IsNone state.old }
+    ensures { IfOk result (λ step. line_step state.old (Line.Nodes n) ≡ meant step state.new) }
+{
+    if n > 8 {
+        return Ok(Step::NotBuilt);
+    }
+    *state = Some(State::new(alloc, n)?);
+    Ok(Step::GoesOn(Bytes::new(alloc)))
+}
+
+/// Exactly one whole write, which is built or not.
+fn is_one_write(request: &Option<Request>) -> bool
+    ensures { result ≡ is_one_write request.now }
+{
+    match request {
+        Some(request) => is_write(request),
+        None => false,
+    }
+}
+
+/// A write that is not built yet.
+fn is_write_to_come(request: &Option<Request>) -> bool
+    ensures { result ≡ is_write_to_come request.now }
+{
+    match request {
+        Some(request) => is_write(request) && !is_built_write(request),
+        None => false,
+    }
+}
+
+/// The write of a `start` that is not built yet.
+fn is_start_to_come(alloc: Global, bytes: &[u8]) -> Result<bool, NoMemory>
+    ensures { IfOk result (λ to_come. to_come ≡ is_write_to_come (request_of bytes.now)) }
+{
+    let request = request_of(alloc, bytes)?;
+    Ok(is_write_to_come(&request))
+}
+
+/// A line that is not built yet, whatever it names.
+fn is_to_come(alloc: Global, line: &Line) -> Result<bool, NoMemory>
+    ensures { IfOk result (λ to_come. to_come ≡ is_to_come line.now) }
+{
+    match line {
+        Line::Pump { .. } | Line::Restart { .. } | Line::Fail { .. } | Line::Audit { .. } => {
+            Ok(true)
+        }
+        Line::StartWrite { bytes, .. } => is_start_to_come(alloc, bytes.as_slice()),
+        _ => Ok(false),
+    }
+}
+
+/// Carries out a line where there are no nodes yet.
+fn take_first(alloc: Global, state: &mut Option<State>, line: &Line) -> Result<Step, NoMemory>
+    requires { IsNone state.old }
+    ensures { IfOk result (λ step. line_step state.old line.now ≡ meant step state.new) }
+{
+    if is_to_come(alloc, line)? {
+        return Ok(Step::NotBuilt);
+    }
+    match line {
+        Line::Nothing => Ok(Step::GoesOn(Bytes::new(alloc))),
+        Line::Nodes { n } => first_nodes(alloc, state, *n),
+        _ => Ok(Step::Refuses(LineWhy::First)),
     }
 }
 
 /// Carries out a line, or says why the script stops before it.
 pub(crate) fn take_line(
     alloc: Global,
-    world: &mut Option<World>,
+    state: &mut Option<State>,
     line: &Line,
 ) -> Result<Step, NoMemory>
-    ensures { IfOk result (λ step. line_step world.old line.now ≡ meant step world.new) }
+    ensures { IfOk result (λ step. line_step state.old line.now ≡ meant step state.new) }
 {
-    match world {
-        Some(world) => world.take(alloc, line),
-        None => Ok(take_first(alloc, world, line)),
+    match state {
+        Some(state) => state.take(alloc, line),
+        None => take_first(alloc, state, line),
     }
 }

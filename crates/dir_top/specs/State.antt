@@ -1,0 +1,59 @@
+-- The state of a script: a world, the connections to its nodes, and who waits for the answer to a ticket.
+use Rattle.std.specs.Prelude.{ℕ, ◌+◌, ◌-◌, Bool, true, false, not, ◌==◌, List, [], ◌∷◌, filter, find, codes, replicate, slice_index_or, slice_set, Option}
+use Rattle.repl_data.specs.declared.change.Suffix.{Suffix}
+use Rattle.ldap_types.specs.declared.reply.Identity.{Identity}
+use Rattle.ldap_types.specs.declared.reply.Identity.TheVariants.{Anonymous}
+use Rattle.world_core.specs.World.{new_world}
+use Rattle.dir_top.specs.declared.state.Connection.{Connection}
+use Rattle.dir_top.specs.declared.state.Connection.TheVariants.{Closed, Open}
+use Rattle.dir_top.specs.declared.state.Owed.{Owed}
+use Rattle.dir_top.specs.declared.state.State.{State}
+
+-- the suffix of all nodes of a script
+unfoldable pub script_suffix : Suffix
+script_suffix = record {
+  name = codes "dc=example";
+  rdn = record { avas = (record { attr = record { name = codes "dc" }; val = record { key = codes "example"; spelled = codes "example" } }) ∷ [] };
+}
+
+-- after `nodes n`
+abbrev pub new_state : ℕ → State
+new_state n = record { world = new_world script_suffix n; connections = replicate 64 Closed; opened = 0; owed = [] }
+
+-- ---- connections
+
+-- connection c stands at place c - 1
+abbrev pub connection_in : State → ℕ → Connection
+connection_in s c = slice_index_or s.connections (c - 1) Closed
+
+abbrev pub with_connection : State → ℕ → Connection → State
+with_connection s c connection = record s { connections = slice_set s.connections (c - 1) connection }
+
+abbrev pub is_open : Connection → Bool
+is_open Closed = false
+is_open (Open node instance identity) = true
+
+-- a new connection to node n: nobody has bound on it
+abbrev pub opened : State → ℕ → ℕ → State
+opened s c n = record (with_connection s c (Open n s.opened Anonymous)) { opened = s.opened + 1 }
+
+-- whom a connection speaks for from now on
+abbrev pub speaks_for : Identity → Connection → Connection
+speaks_for identity Closed = Closed
+speaks_for identity (Open node instance old) = Open node instance identity
+
+-- ---- tickets that a client waits for
+
+abbrev pub owed_for : State → ℕ → Option Owed
+owed_for s k = find (λ (o : Owed). o.ticket == k) s.owed
+
+abbrev pub without_owed : ℕ → List Owed → List Owed
+without_owed k owed = filter (λ (o : Owed). not (o.ticket == k)) owed
+
+-- the connection is still the one on which the ticket was begun
+abbrev pub is_same_connection : ℕ → Connection → Bool
+is_same_connection instance Closed = false
+is_same_connection instance (Open node now identity) = now == instance
+
+abbrev pub still_waits : State → Owed → Bool
+still_waits s o = is_same_connection o.instance (connection_in s o.connection)

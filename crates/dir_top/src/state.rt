@@ -1,0 +1,200 @@
+ghost use Rattle.std.specs.Prelude.{◌≡◌, ◌≤◌, ◌==◌, find, IfOk, OnOk};
+ghost use Rattle.std.specs.Option.{option_copied};
+ghost use Rattle.dir_top.specs.declared.state.Owed.{Owed};
+ghost use Rattle.dir_top.specs.State.{script_suffix, new_state, connection_in, with_connection, is_open, opened, speaks_for, owed_for, without_owed, is_same_connection, still_waits};
+
+use ldap_types::Identity;
+use repl_data::{AttrKey, Ava, Bytes, Items, NoMemory, Rdn, Suffix, Val};
+use std::alloc::Global;
+use std::mem;
+use world_core::World;
+
+/// A connection of the script.
+#[derive(Clone, Copy, Debug, Eq, PartialEq)]
+pub enum Connection {
+    Closed,
+    Open {
+        node: u16,
+        /// How many connections had been opened before it.
+        instance: u64,
+        identity: Identity,
+    },
+}
+
+/// Who waits for the answer to a ticket.
+#[derive(Clone, Copy, Debug, Drop, Eq, PartialEq)]
+pub struct Owed {
+    pub ticket: u32,
+    pub connection: u16,
+    pub instance: u64,
+    /// The message id of the write.
+    pub id: u32,
+}
+
+/// A world, the connections to its nodes, and who waits for the answer to a ticket.
+#[derive(Debug, Drop)]
+pub struct State {
+    pub world: World,
+    /// Connection C stands at place C - 1.
+    pub connections: [Connection; 64],
+    /// How many connections were ever opened.
+    pub opened: u64,
+    pub owed: Items<Owed>,
+}
+
+impl Connection {
+    pub(crate) fn is_open(self) -> bool
+        ensures { result ≡ is_open self }
+    {
+        match self {
+            Connection::Closed => false,
+            Connection::Open { .. } => true,
+        }
+    }
+
+    fn speaks_for(self, identity: Identity) -> Connection
+        ensures { result ≡ speaks_for identity self }
+    {
+        match self {
+            Connection::Closed => Connection::Closed,
+            Connection::Open { node, instance, .. } => Connection::Open {
+                node,
+                instance,
+                identity,
+            },
+        }
+    }
+
+    fn is_same(self, instance: u64) -> bool
+        ensures { result ≡ is_same_connection instance self }
+    {
+        match self {
+            Connection::Closed => false,
+            Connection::Open { instance: now, .. } => now == instance,
+        }
+    }
+}
+
+/// The suffix of all nodes of a script.
+#[tactic(auto, unfolding(crate::specs::State::script_suffix))]
+fn script_suffix(alloc: Global) -> Result<Suffix, NoMemory>
+    ensures { IfOk result (λ suffix. suffix ≡ script_suffix) }
+{
+    let attr = AttrKey {
+        name: Bytes::from_slice(alloc, b"dc")?,
+    };
+    let val = Val {
+        key: Bytes::from_slice(alloc, b"example")?,
+        spelled: Bytes::from_slice(alloc, b"example")?,
+    };
+    let mut avas = Items::new(alloc);
+    avas.push(Ava { attr, val })?;
+    Ok(Suffix {
+        name: Bytes::from_slice(alloc, b"dc=example")?,
+        rdn: Rdn { avas },
+    })
+}
+
+fn keep_others(list: &mut Vec<Owed>, k: u32)
+    ensures { list.new.items ≡ without_owed k list.old.items }
+{
+    list.retain(|o| o.ticket != k);
+}
+
+/// Those who do not wait for this ticket.
+fn without_owed(owed: Items<Owed>, k: u32) -> Items<Owed>
+    ensures { result ≡ without_owed k owed }
+{
+    let mut list = owed.into_vec();
+    keep_others(&mut list, k);
+    Items::from_vec(list)
+}
+
+impl State {
+    /// Nodes 1 to `n`, and no connections.
+    pub(crate) fn new(alloc: Global, n: u16) -> Result<State, NoMemory>
+        requires { n ≤ 8 }
+        ensures { IfOk result (λ state. state ≡ new_state n) }
+    {
+        let suffix = script_suffix(alloc)?;
+        Ok(State {
+            world: World::new(alloc, n, &suffix)?,
+            connections: [Connection::Closed; 64],
+            opened: 0,
+            owed: Items::new(alloc),
+        })
+    }
+
+    pub(crate) fn connection(&self, c: u16) -> Connection
+        ensures { result ≡ connection_in self.now c }
+    {
+        let place = usize::from(c.saturating_sub(1));
+        self.connections
+            .get(place)
+            .copied()
+            .unwrap_or(Connection::Closed)
+    }
+
+    fn set_connection(&mut self, c: u16, connection: Connection)
+        ensures { self.new ≡ with_connection self.old c connection }
+    {
+        let place = usize::from(c.saturating_sub(1));
+        if place < 64 {
+            self.connections[place] = connection;
+        }
+    }
+
+    /// Opens a connection to node `n`.
+    pub(crate) fn open(&mut self, c: u16, n: u16) -> Result<(), NoMemory>
+        ensures { OnOk result (self.new ≡ opened self.old c n) }
+    {
+        let next = self.opened.checked_add(1).ok_or(NoMemory)?;
+        let connection = Connection::Open {
+            node: n,
+            instance: self.opened,
+            identity: Identity::Anonymous,
+        };
+        self.set_connection(c, connection);
+        self.opened = next;
+        Ok(())
+    }
+
+    /// Whom a connection speaks for from now on.
+    pub(crate) fn bind(&mut self, c: u16, identity: Identity)
+        ensures { self.new ≡ with_connection self.old c (speaks_for identity (connection_in self.old c)) }
+    {
+        let connection = self.connection(c).speaks_for(identity);
+        self.set_connection(c, connection);
+    }
+
+    /// Who waits for the answer to a ticket. Looks at the tickets that are there, of which a node has
+    /// at most 1,024.
+    pub(crate) fn owed_for(&self, k: u32) -> Option<Owed>
+        ensures { result ≡ owed_for self.now k }
+    {
+        match owed_in(self.owed.as_slice(), k) {
+            Some(owed) => Some(*owed),
+            None => None,
+        }
+    }
+
+    pub(crate) fn still_waits(&self, owed: Owed) -> bool
+        ensures { result ≡ still_waits self.now owed }
+    {
+        self.connection(owed.connection).is_same(owed.instance)
+    }
+
+    /// Nobody waits for the ticket any more.
+    pub(crate) fn forget(&mut self, alloc: Global, k: u32)
+        ensures { self.new ≡ record self.old { owed = without_owed k self.old.owed } }
+    {
+        let owed = mem::replace(&mut self.owed, Items::new(alloc));
+        self.owed = without_owed(owed, k);
+    }
+}
+
+fn owed_in(owed: &[Owed], k: u32) -> Option<&Owed>
+    ensures { option_copied result ≡ find (λ (o : Owed). o.ticket == k) owed.now }
+{
+    owed.iter().find(|o| o.ticket == k)
+}
