@@ -207,3 +207,11 @@ fn the_errors_have_texts(rt: HostRuntime) -> Result<(), Fail> {
     assert_eq!(rt; text.as_str(), "read or write failed, no memory");
     Ok(())
 }
+
+#[test]
+fn a_clock_tells_the_time_that_it_was_set_to(rt: HostRuntime) {
+    let mut clock = SetClock::new(100);
+    assert_eq!(rt; clock.now(), 100);
+    clock.set(u32::MAX);
+    assert_eq!(rt; clock.now(), u32::MAX);
+}
