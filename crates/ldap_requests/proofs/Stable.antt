@@ -154,7 +154,7 @@ tag_in_stays start at (suc (suc left)) (tag ∷ bytes) more = self _
 pub tag_stays : StaysInside tag_here
 tag_stays w v g = rw g.1 (tag_in_stays w.start w.at w.left w.bytes g.0)
 
-drop_append : (n : ℕ) (xs ys : List ℕ) → drop n (xs ++ ys) ≡ drop n xs ++ drop (n - length xs) ys
+pub drop_append : (n : ℕ) (xs ys : List ℕ) → drop n (xs ++ ys) ≡ drop n xs ++ drop (n - length xs) ys
 drop_append zero xs ys = let k : 0 - length xs ≡ 0 = omega arith in rw k refl
 drop_append (suc n) [] ys = let k : suc n - length {A = ℕ} [] ≡ suc n = omega arith in rw k refl
 drop_append (suc n) (x ∷ xs) ys = let k : suc n - length (x ∷ xs) ≡ n - length xs = omega arith in rw k (drop_append n xs ys)

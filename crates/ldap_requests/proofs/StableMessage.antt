@@ -21,11 +21,11 @@ only f h = and_then h (λ x y e. kept (f x) (f y) (ap f e))
 text_stays : Stays text
 text_stays = element_stays 0x04 octets octets_stays
 
-count_stays : StaysInside count
+pub count_stays : StaysInside count
 unfolding count
 count_stays w v g = rw g.1 (and_then (int_stays w (with_more g.0 w) (g.0, refl)) (λ x y e. rw (sym e) (self (ranged why.Shape w.start (in_range 0 x)))))
 
-message_id_stays : StaysInside message_id
+pub message_id_stays : StaysInside message_id
 unfolding message_id
 message_id_stays w v g = rw g.1 (and_then (int_stays w (with_more g.0 w) (g.0, refl)) (λ x y e. rw (sym e) (self (ranged why.Id w.start (in_range 1 x)))))
 

@@ -111,7 +111,7 @@ impl<'a> Cursor<'a> {
     }
 
     #[tactic(auto, unfolding(crate::specs::Window::boolean))]
-    pub(crate) fn boolean(self) -> Result<bool, ReadFault>
+    pub fn boolean(self) -> Result<bool, ReadFault>
         ensures { Gives (λ b. b) result (boolean (window self.entry)) }
     {
         if self.left != 1 {

@@ -11,5 +11,5 @@ mod parts;
 pub use cursor::Cursor;
 pub use fault::{NotLdapWhy, ReadFault};
 pub use filter::FILTER_DEPTH;
-pub use message::{MESSAGE_LIMIT, read_request, request_laws};
-pub use parts::ended;
+pub use message::{MESSAGE_LIMIT, message_id, read_request, request_laws};
+pub use parts::{count, ended};

@@ -16,8 +16,9 @@ use std::alloc::Global;
 /// How many bytes a message has at most.
 pub const MESSAGE_LIMIT: usize = 2_097_152;
 
+/// The id of a message that is the content, from 1 to 2147483647 (RFC 4511, section 4.1.1.1).
 #[tactic(auto, unfolding(crate::specs::Grammar::message_id))]
-fn message_id(w: Cursor) -> Result<u32, ReadFault>
+pub fn message_id(w: Cursor) -> Result<u32, ReadFault>
     ensures { Gives (λ n. n) result (message_id (window w.entry)) }
 {
     let value = w.int()?;

@@ -103,8 +103,9 @@ pub(crate) fn optional_boolean(w: Cursor) -> Result<(Option<bool>, Cursor), Read
     Ok((Some(inside.boolean()?), rest))
 }
 
+/// The number that is the content, from 0 to 2147483647 (RFC 4511, section 4.1.1, `maxInt`).
 #[tactic(auto, unfolding(crate::specs::Grammar::count))]
-pub(crate) fn count(w: Cursor) -> Result<u32, ReadFault>
+pub fn count(w: Cursor) -> Result<u32, ReadFault>
     ensures { Gives (λ n. n) result (count (window w.entry)) }
 {
     let value = w.int()?;

@@ -1,0 +1,5 @@
+pub mod Table
+pub mod Inside
+pub mod Place
+pub mod Comes
+pub mod Waiting
