@@ -1,38 +1,35 @@
 -- The body of an add passes `check` at a CSN above its parent.
-use Rattle.std.proofs.Common.{◌≡◌, ◌≢◌, ℕ, zero, suc, ◌+◌, ◌<◌, ◌≤◌, Bool, true, false, cond, not, ◌||◌, ◌&&◌, List, [], ◌∷◌, ◌++◌, length, map, refl, sym, ap, subst, ◌∙◌, arith, Option, Some, None, eq-eqb, eqb-true, nat_lt}
+use Rattle.std.proofs.Common.{◌≡◌, ◌≢◌, ℕ, ◌+◌, ◌<◌, ◌≤◌, Bool, true, false, cond, not, ◌||◌, List, [], ◌∷◌, ◌++◌, length, map, refl, sym, ap, ◌∙◌, arith, Option, Some, None, eq-eqb, nat_lt}
 use Rattle.std.specs.Prelude.{option_map, ◌==◌, fold}
-use Rattle.std.specs.List.{AllByRecursion, list_any, list_all, position_from}
-use Rattle.std.specs.declared.cmp.Ordering.{Ordering}
-use Rattle.std.specs.declared.cmp.Ordering.TheVariants.{Less, Equal, Greater}
+use Rattle.std.specs.List.{AllByRecursion, list_any, position_from}
+use Rattle.std.specs.declared.cmp.Ordering.TheVariants.{Less}
 use Rattle.std.specs.Ordering.{is_lt}
 use Rattle.std.proofs.lemmas.Bool.Decides.{nat_tests}
 use Rattle.std.proofs.lemmas.List.{length-map}
 use Rattle.repl_data.specs.declared.csn.Csn.{Csn}
 use Rattle.repl_data.specs.declared.csn.Uid.{Uid}
-use Rattle.repl_data.specs.declared.change.Val.{Val}
 use Rattle.repl_data.specs.declared.change.Ava.{Ava}
 use Rattle.repl_data.specs.declared.change.Attr.{Attr}
 use Rattle.repl_data.specs.declared.change.Rdn.{Rdn}
 use Rattle.repl_data.specs.declared.change.Body.{Body}
 use Rattle.repl_data.specs.declared.change.Body.TheVariants.{Add}
 use Rattle.repl_data.specs.declared.change.Change.{Change}
-use Rattle.repl_data.specs.declared.change.Malformed.TheVariants.{Rid, Sub, Order, Root, TooMany, TooHeavy, Empty, DoubleKey, Derived, NameValue}
+use Rattle.repl_data.specs.declared.change.Malformed.TheVariants.{Rid, Sub, Order, TooMany, TooHeavy, Empty, DoubleKey, Derived, NameValue}
 use Rattle.repl_data.specs.declared.change.Malformed.{Malformed}
-use Rattle.repl_data.specs.Order.{bytes_cmp, in_order, put_by, csn_eq, csn_lt}
-use Rattle.repl_data.specs.Types.{is_derived_ava, is_derived_value, is_derived_attribute}
-use Rattle.repl_data.specs.Check.{fault_if, fault_at, either_fault, first_fault, is_empty, falls, falls_after, vals_rise, parts_of, part_falls, either_place, names_derived, has_value, weight, faults_of_frame, faults_of_body, fault_of}
-use Rattle.repl_data.proofs.Sound.{neither, not_both}
+use Rattle.repl_data.specs.Order.{bytes_cmp, in_order, csn_eq, csn_lt}
+use Rattle.repl_data.specs.Types.{is_derived_ava, is_derived_value}
+use Rattle.repl_data.specs.Check.{fault_if, either_fault, first_fault, is_empty, falls, falls_after, vals_rise, parts_of, part_falls, either_place, names_derived, weight, faults_of_frame, faults_of_body, fault_of}
+use Rattle.repl_data.proofs.Sound.{neither}
 use Rattle.repl_data.proofs.Orders.{bytes_total, bytes_exact, put_swap}
 use Rattle.repl_data.proofs.CsnTests.{csn_eq-same}
 use Rattle.dn_text.specs.Laws.{IsBelowAll, AreReadableParts}
-use Rattle.dn_text.specs.Reading.{comes_before}
 use Rattle.ldap_types.specs.declared.request.RawAttr.{RawAttr}
 use Rattle.ldap_rules.specs.Ordered.{Rises, val_key, attr_name, own_key}
 use Rattle.ldap_rules.specs.Values.{named_keys, attribute_count, with_name, with_part}
 use Rattle.ldap_rules.specs.Counting.{put_key}
 use Rattle.ldap_rules.specs.Laws.{IsDrawnAbove}
 use Rattle.ldap_rules.proofs.Places.{is_less}
-use Rattle.ldap_rules.proofs.Goods.{IsGood, AreGood, AreRead}
+use Rattle.ldap_rules.proofs.Goods.{IsGood, AreRead}
 use Rattle.ldap_rules.proofs.Named.{parts_there, parts_read}
 
 -- ---- where no place is at fault

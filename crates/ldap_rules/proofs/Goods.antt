@@ -1,32 +1,29 @@
 -- What is read of an add: attributes in order, each with values, and none that a view derives.
-use Rattle.std.proofs.Common.{◌≡◌, ◌≢◌, ℕ, zero, suc, ◌+◌, ◌<◌, ◌≤◌, Bool, true, false, cond, not, ◌||◌, ◌&&◌, List, [], ◌∷◌, ◌++◌, length, map, Result, Ok, Err, refl, sym, ap, subst, ◌∙◌, arith, Option, Some, None, append-nil, append_assoc}
-use Rattle.std.specs.Prelude.{is_none, fold}
-use Rattle.std.specs.List.{AllByRecursion, list_any, list_all}
+use Rattle.std.proofs.Common.{◌≡◌, ℕ, Bool, true, false, cond, ◌||◌, List, [], ◌∷◌, ◌++◌, map, Result, Ok, Err, refl, sym, ap, subst, ◌∙◌, Option, Some, None, append-nil, append_assoc}
+use Rattle.std.specs.Prelude.{is_none}
+use Rattle.std.specs.List.{AllByRecursion, list_any}
 use Rattle.std.specs.declared.cmp.Ordering.{Ordering}
 use Rattle.std.specs.declared.cmp.Ordering.TheVariants.{Less, Equal, Greater}
-use Rattle.std.specs.Ordering.{is_eq, is_lt}
-use Rattle.std.proofs.lemmas.Cmp.{tied_itself}
+use Rattle.std.specs.Ordering.{is_eq}
 use Rattle.repl_data.specs.declared.change.AttrKey.{AttrKey}
 use Rattle.repl_data.specs.declared.change.Val.{Val}
-use Rattle.repl_data.specs.declared.change.Ava.{Ava}
 use Rattle.repl_data.specs.declared.change.Attr.{Attr}
-use Rattle.repl_data.specs.Order.{bytes_cmp, bytes_eq, put_by, by_order, in_order}
-use Rattle.repl_data.specs.Types.{is_derived_attribute, is_derived_value, is_derived_ava}
-use Rattle.repl_data.specs.Check.{is_empty, has_value}
+use Rattle.repl_data.specs.Order.{bytes_cmp, put_by, by_order, in_order}
+use Rattle.repl_data.specs.Types.{is_derived_attribute, is_derived_value}
+use Rattle.repl_data.specs.Check.{is_empty}
 use Rattle.repl_data.specs.View.{put_attr, put_val, vals_at}
-use Rattle.repl_data.proofs.Sound.{neither, both_true, not_both}
+use Rattle.repl_data.proofs.Sound.{neither, not_both}
 use Rattle.repl_data.proofs.Orders.{bytes_total, bytes_exact}
-use Rattle.repl_data.proofs.InOrder.{is_equal, in_order_by-append, any-in_order_by, put-known}
+use Rattle.repl_data.proofs.InOrder.{in_order_by-append}
 use Rattle.attr_keys.specs.Name.{bad_name}
-use Rattle.attr_keys.specs.Table.{key_of, kind_of}
-use Rattle.attr_keys.specs.Value.{bad_value}
+use Rattle.attr_keys.specs.Table.{key_of}
 use Rattle.ldap_types.specs.declared.request.RawAttr.{RawAttr}
 use Rattle.ldap_types.specs.declared.reply.LdapResult.{LdapResult}
 use Rattle.ldap_rules.specs.Case.{◌>>=◌, refuse_if}
 use Rattle.ldap_rules.specs.Ordered.{Rises, val_key, attr_name, own_key}
-use Rattle.ldap_rules.specs.Values.{is_name, named_keys, named, read_name, valued, read_value, has_key, put_new, value_beside, values_beside, attribute_beside, attributes_beside, with_part}
+use Rattle.ldap_rules.specs.Values.{is_name, named_keys, named, read_name, read_value, has_key, value_beside, values_beside, attribute_beside, attributes_beside}
 use Rattle.ldap_rules.specs.Counting.{put_key}
-use Rattle.ldap_rules.proofs.Places.{put_rises, all_put, above_others, equal_key, is_same}
+use Rattle.ldap_rules.proofs.Places.{put_rises, all_put, above_others}
 
 -- ---- chains of cases
 

@@ -1,26 +1,24 @@
 -- The values of the name among the attributes.
-use Rattle.std.proofs.Common.{◌≡◌, ◌≢◌, ℕ, Bool, true, false, cond, not, ◌||◌, ◌&&◌, List, [], ◌∷◌, ◌++◌, map, refl, sym, ap, subst, ◌∙◌, append-nil, append_assoc}
+use Rattle.std.proofs.Common.{◌≡◌, ℕ, Bool, true, false, cond, ◌||◌, ◌&&◌, List, [], ◌∷◌, ◌++◌, map, refl, sym, ap, subst, ◌∙◌, append-nil, append_assoc}
 use Rattle.std.specs.Prelude.{fold}
 use Rattle.std.specs.List.{AllByRecursion, list_any, list_all}
 use Rattle.std.specs.declared.cmp.Ordering.{Ordering}
 use Rattle.std.specs.declared.cmp.Ordering.TheVariants.{Less, Equal, Greater}
-use Rattle.std.specs.Ordering.{is_eq}
 use Rattle.repl_data.specs.declared.change.AttrKey.{AttrKey}
 use Rattle.repl_data.specs.declared.change.Val.{Val}
 use Rattle.repl_data.specs.declared.change.Ava.{Ava}
 use Rattle.repl_data.specs.declared.change.Attr.{Attr}
-use Rattle.repl_data.specs.Order.{bytes_cmp, bytes_eq, put_by, by_order, in_order}
+use Rattle.repl_data.specs.Order.{bytes_cmp, bytes_eq, by_order}
 use Rattle.repl_data.specs.Types.{is_derived_attribute, is_derived_value, is_derived_ava}
 use Rattle.repl_data.specs.Check.{has_value}
 use Rattle.repl_data.specs.View.{put_attr, put_val, vals_at}
 use Rattle.repl_data.proofs.Sound.{neither, both_true, not_both}
 use Rattle.repl_data.proofs.Orders.{bytes_total, bytes_exact}
 use Rattle.repl_data.proofs.InOrder.{in_order_by-append, any-in_order_by, put-known}
-use Rattle.ldap_rules.specs.Ordered.{Rises, val_key, attr_name, own_key}
+use Rattle.ldap_rules.specs.Ordered.{val_key, attr_name, own_key}
 use Rattle.ldap_rules.specs.Values.{has_key, with_part}
-use Rattle.ldap_rules.specs.Counting.{put_key}
 use Rattle.ldap_rules.proofs.Places.{put_rises, equal_key, is_same}
-use Rattle.ldap_rules.proofs.Goods.{IsGood, AreGood, AreRead, put_read, vals_good, none_put, full_put}
+use Rattle.ldap_rules.proofs.Goods.{AreRead, put_read, vals_good, none_put, full_put}
 
 either_left : (a b : Bool) → a ≡ true → (a || b) ≡ true
 either_left a b h = ap (λ x. x || b) h

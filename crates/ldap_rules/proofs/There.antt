@@ -1,5 +1,5 @@
 -- The parent of an add is the suffix entry or an entry that the view has.
-use Rattle.std.proofs.Common.{◌≡◌, ℕ, Bool, true, false, cond, ◌||◌, List, [], ◌∷◌, map, Result, Ok, Err, refl, sym, ap, subst, ◌∙◌, Option, Some, None}
+use Rattle.std.proofs.Common.{◌≡◌, Bool, true, false, cond, ◌||◌, List, [], ◌∷◌, Ok, refl, sym, ap, ◌∙◌, Option, Some, None}
 use Rattle.std.specs.Prelude.{is_some, filter, find, option_map}
 use Rattle.std.specs.List.{list_any}
 use Rattle.repl_data.specs.declared.csn.Uid.{Uid}
@@ -14,7 +14,6 @@ use Rattle.std.proofs.lemmas.Cmp.{tied_itself}
 use Rattle.std.specs.Ordering.{is_eq}
 use Rattle.plain_view.proofs.Known.{known_by_view}
 use Rattle.repl_data.specs.Facts.{added_ids}
-use Rattle.ldap_types.specs.declared.reply.LdapResult.{LdapResult}
 use Rattle.ldap_rules.specs.declared.walk.Place.{Place}
 use Rattle.ldap_rules.specs.declared.walk.Place.TheVariants.{There, Nearest}
 use Rattle.ldap_rules.specs.Names.{below, place_of, found, entry_at}

@@ -1,5 +1,5 @@
 -- What stands where the rules write.
-use Rattle.std.proofs.Common.{◌≡◌, ◌≢◌, ℕ, zero, suc, Bool, true, false, not, ◌&&◌, List, [], ◌∷◌, take, refl, sym, ap, subst, ◌∙◌, Result, Ok, Err, Option, Some, None, nat_lt}
+use Rattle.std.proofs.Common.{◌≡◌, ℕ, zero, suc, true, false, not, ◌&&◌, List, [], ◌∷◌, take, refl, sym, ap, subst, Result, Ok, Err, Option, Some, None, nat_lt}
 use Rattle.std.specs.Prelude.{is_some, option_map}
 use Rattle.std.specs.List.{list_any}
 use Rattle.repl_data.specs.declared.csn.Csn.{Csn}
@@ -25,7 +25,7 @@ use Rattle.ldap_types.specs.declared.reply.LdapResult.{LdapResult}
 use Rattle.ldap_rules.specs.Case.{◌>>=◌}
 use Rattle.ldap_rules.specs.Names.{rdns_above, count_above, entry_at}
 use Rattle.ldap_rules.specs.Values.{named_keys, attribute_count, attributes_beside, with_name, has_too_many_values, is_class}
-use Rattle.ldap_rules.specs.Verdict.{Verdict, Refuses, Writes, is_unknown, is_update_control, is_manager, is_supplier, read_object, within, all_writes, add_body, not_too_heavy, add_verdict, verdict_from, op_verdict}
+use Rattle.ldap_rules.specs.Verdict.{Writes, is_unknown, is_update_control, is_manager, is_supplier, read_object, within, all_writes, add_body, not_too_heavy, add_verdict, verdict_from, op_verdict}
 use Rattle.ldap_rules.specs.Laws.{change_at, needed_at, IsDrawnAbove, has_entry}
 use Rattle.ldap_rules.proofs.Goods.{by_pass, by_free, AreRead, attributes_read}
 use Rattle.ldap_rules.proofs.Checked.{add_sound}

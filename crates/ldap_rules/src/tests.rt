@@ -15,7 +15,7 @@ fn text(alloc: Global, bytes: &[u8]) -> Result<Bytes, NoMemory> {
     Bytes::from_slice(alloc, bytes)
 }
 
-// ---- a view of the suffix entry `dc=example` and of `ou=a` below it
+// ---- a view of the suffix entry `dc=example` and of two entries `ou=a` below it, of which one lost that name
 
 fn rdn(alloc: Global, name: &[u8], bytes: &[u8]) -> Result<Rdn, NoMemory> {
     let attr = AttrKey {
@@ -54,11 +54,12 @@ fn put_attr(
     attrs.push(Attr { attr, vals })
 }
 
-fn view(alloc: Global, suffix: &Suffix) -> Result<PlainView, NoMemory> {
+/// The add of `ou=a` by this replica.
+fn unit(alloc: Global, rid: u16) -> Result<Change, NoMemory> {
     let csn = Csn {
         time: 100,
         seq: 0,
-        rid: 1,
+        rid,
         sub: 0,
     };
     let mut attrs = Items::new(alloc);
@@ -74,13 +75,17 @@ fn view(alloc: Global, suffix: &Suffix) -> Result<PlainView, NoMemory> {
         rdn: rdn(alloc, b"ou".as_slice(), b"a".as_slice())?,
         attrs,
     };
-    let change = Change {
+    Ok(Change {
         csn,
         target: Uid { csn },
         body,
-    };
+    })
+}
+
+fn view(alloc: Global, suffix: &Suffix) -> Result<PlainView, NoMemory> {
     let mut changes = Items::new(alloc);
-    changes.push(change)?;
+    changes.push(unit(alloc, 1)?)?;
+    changes.push(unit(alloc, 2)?)?;
     PlainView::of(alloc, suffix, changes.as_slice())
 }
 
@@ -185,7 +190,7 @@ fn told(alloc: Global, judged: &Result<Judged, JudgeFault>) -> Result<Bytes, Fai
 // ---- adds
 
 /// The answer, the name and the attributes, with a slash between each two.
-static ROWS: [&[u8]; 62] = [
+static ROWS: [&[u8]; 72] = [
     // What is accepted.
     b"0 /ou=b,dc=example/objectClass=top",
     b"0 /OU=b+cn=x\\,y,ou=A,DC=Example/objectClass=top|cn=x|description=1,2,3",
@@ -210,17 +215,23 @@ static ROWS: [&[u8]; 62] = [
     b"64 /objectClass=Glue,dc=example/objectClass=top",
     b"64 /objectClass=nsTombstone,dc=example/objectClass=top",
     b"64 /nsuniqueid=1,ou=none,dc=example/1=x",
+    b"64 /nsuniqueid=00000064-00000002-00000000-00000000+ou=a,dc=example/objectClass=top",
     // The parent is not there.
     b"32 dc=example/cn=b,ou=none,dc=example/objectClass=top",
     b"32 ou=a,dc=example/cn=b,cn=none,OU=a,dc=example/objectClass=top",
     b"32 dc=example/ou=a,cn=none,ou=none,dc=example/objectClass=top",
     b"32 dc=example/ou=a,ou=none,dc=example/1=x",
+    b"32 nsuniqueid=00000064-00000002-00000000-00000000+ou=a,dc=example/cn=b,cn=none,OU= A + nsUniqueId = 00000064-00000002-00000000-00000000,dc=example/objectClass=top",
     // A sibling shows the relative name.
     b"68 /ou=a,dc=example/objectClass=top",
     b"68 /OU=  A ,dc=EXAMPLE/objectClass=top",
     b"68 /ou=a,dc=example/1=x",
     b"68 /ou=A,dc=example/cn",
+    b"68 /ou=\\61,dc=example/objectClass=top",
+    b"68 /ou=\\ a\\20,dc=example/objectClass=top",
     b"0 /ou=a,ou=a,dc=example/objectClass=top",
+    b"0 /ou=a+cn=x,dc=example/objectClass=top",
+    b"0 /ou=a,nsuniqueid=00000064-00000002-00000000-00000000+ou=a,dc=example/objectClass=top",
     // An attribute's name, that it is derived, or that it has no value.
     b"17 /cn=b,dc=example/1=x|objectClass=top",
     b"17 /cn=b,dc=example/1",
@@ -228,6 +239,9 @@ static ROWS: [&[u8]; 62] = [
     b"19 /cn=b,dc=example/nsuniqueid=1|1=x",
     b"19 /cn=b,dc=example/nsUniqueId",
     b"19 /cn=b,dc=example/nsds50ruv=|objectClass=top",
+    b"19 /cn=b,dc=example/nsParentUniqueId=1,1|objectClass=top",
+    b"19 /cn=b,dc=example/nsds5ReplConflict=1|objectClass=top",
+    b"0 /cn=b,dc=example/nsuniqueid;x=1|objectClass=top",
     b"2 /cn=b,dc=example/cn|objectClass=top",
     b"2 /cn=b,dc=example/uidNumber|1=x",
     // A value that is not accepted, or derived, or there twice.
@@ -235,6 +249,7 @@ static ROWS: [&[u8]; 62] = [
     b"21 /cn=b,dc=example/objectClass=",
     b"21 /cn=b,dc=example/uidNumber=7,x,7",
     b"21 /cn=b,dc=example/uidNumber=x|cn",
+    b"21 /cn=b,dc=example/objectClass=,glue",
     b"19 /cn=b,dc=example/objectClass=top,GLUE",
     b"19 /cn=b,dc=example/objectClass=nsTombstone,nsTombstone",
     b"19 /cn=b,dc=example/objectClass=glue,",
@@ -369,13 +384,19 @@ fn put_raw(
     })
 }
 
+/// So many attributes, each with a name of its own.
+fn put_names(alloc: Global, count: u32, attrs: &mut RawAttrList) -> Result<(), Fail> {
+    for i in 0..count {
+        let name = format!(in alloc; "a{i}")?;
+        put_raw(alloc, name.as_str().as_bytes(), b"x".as_slice(), attrs)?;
+    }
+    Ok(())
+}
+
 /// So many attributes, each with a name of its own, and a class.
 fn many(alloc: Global, count: u32) -> Result<RawAttrList, Fail> {
     let mut attrs = raw_attrs(alloc, b"objectClass=top".as_slice())?;
-    for i in 0..count {
-        let name = format!(in alloc; "a{i}")?;
-        put_raw(alloc, name.as_str().as_bytes(), b"x".as_slice(), &mut attrs)?;
-    }
+    put_names(alloc, count, &mut attrs)?;
     Ok(attrs)
 }
 
@@ -389,19 +410,22 @@ fn repeated(alloc: Global, name: &[u8], count: u32) -> Result<RawAttrList, Fail>
     Ok(attrs)
 }
 
-/// A description of so many bytes, and a class.
-fn heavy(alloc: Global, count: u32, class: &[u8]) -> Result<RawAttrList, NoMemory> {
+static BLOCK: [u8; 1000] = [b'x'; 1000];
+
+/// A description of so many bytes.
+fn put_description(alloc: Global, count: usize, attrs: &mut RawAttrList) -> Result<(), NoMemory> {
     let mut value = Bytes::new(alloc);
-    for _ in 0..count {
-        value.push(b'x')?;
+    for _ in 0..count / 1000 {
+        value.extend_from_slice(&BLOCK)?;
     }
+    value.extend_from_slice(&BLOCK[..count % 1000])?;
+    put_raw(alloc, b"description".as_slice(), value.as_slice(), attrs)
+}
+
+/// A description of so many bytes, and a class.
+fn heavy(alloc: Global, count: usize, class: &[u8]) -> Result<RawAttrList, NoMemory> {
     let mut attrs = raw_attrs(alloc, class)?;
-    put_raw(
-        alloc,
-        b"description".as_slice(),
-        value.as_slice(),
-        &mut attrs,
-    )?;
+    put_description(alloc, count, &mut attrs)?;
     Ok(attrs)
 }
 
@@ -415,9 +439,9 @@ enum List {
     /// A name that can't be read, so many times.
     Unread(u32),
     /// A description of so many bytes, and a class.
-    Heavy(u32),
+    Heavy(usize),
     /// The same without a class.
-    Bare(u32),
+    Bare(usize),
 }
 
 fn listed(alloc: Global, list: List) -> Result<RawAttrList, Fail> {
@@ -521,6 +545,153 @@ fn try_limits(rt: &impl Abort, alloc: Global, limits: &[Limit]) -> Result<(), Fa
 #[test]
 fn an_add_has_a_greatest_number_of_attributes_and_weight(rt: HostRuntime) -> Result<(), Fail> {
     try_limits(&rt, rt.alloc(), &LIMITS)
+}
+
+// ---- of any two faults that an add can have the earlier one
+
+/// Who asks and how: the refusal of that alone, the identity and the controls, with a slash between each two.
+static ASKERS: [&[u8]; 4] = [b"0 /M/", b"12 /M/!1.2", b"50 /M/!2.999.389.3", b"50 /A/"];
+
+/// The refusal of a name alone, and the name.
+static NAMES: [&[u8]; 7] = [
+    b"0 /cn=b,dc=example",
+    b"34 /cn",
+    b"32 /ou=b,dc=other",
+    b"68 /dc=example",
+    b"64 /objectClass=glue,dc=example",
+    b"32 dc=example/cn=b,ou=none,dc=example",
+    b"68 /ou=a,dc=example",
+];
+
+/// The refusal of a list alone, its letters, and attributes. The letters are a class, 600 attributes with
+/// names of their own, and a heavy description of 2,100,000 bytes.
+static LISTS: [&[u8]; 11] = [
+    b"0 /c/",
+    b"11 /cn/",
+    b"17 /c/1=x",
+    b"19 /c/nsUniqueId=1",
+    b"2 /c/cn",
+    b"21 /c/uidNumber=x",
+    b"19 /c/objectClass=glue",
+    b"20 /c/cn=x,X",
+    b"19 /c/displayName=x,y",
+    b"65 //sn=x",
+    b"11 /ch/",
+];
+
+/// The same of lists with two faults, the earlier of which is refused.
+static TWO_FAULTS: [&[u8]; 26] = [
+    b"11 /cn/1=x",
+    b"11 /cn/nsUniqueId=1",
+    b"11 /cn/cn",
+    b"11 /cn/uidNumber=x",
+    b"11 /cn/objectClass=glue",
+    b"11 /cn/cn=x,X",
+    b"11 /cn/displayName=x,y",
+    b"11 /n/sn=x",
+    b"17 /c/displayName=x,y|1=x",
+    b"17 //1=x",
+    b"17 /ch/1=x",
+    b"19 //nsUniqueId=1",
+    b"19 /ch/nsUniqueId=1",
+    b"2 /c/displayName=x,y|cn",
+    b"2 //cn",
+    b"2 /ch/cn",
+    b"21 /c/displayName=x,y|uidNumber=x",
+    b"21 //uidNumber=x",
+    b"21 /ch/uidNumber=x",
+    b"19 /ch/objectClass=glue",
+    b"20 /c/displayName=x,y,X",
+    b"20 //cn=x,X",
+    b"20 /ch/cn=x,X",
+    b"19 //displayName=x,y",
+    b"19 /ch/displayName=x,y",
+    b"65 /h/sn=x",
+];
+
+fn put_letter(alloc: Global, letter: u8, attrs: &mut RawAttrList) -> Result<(), Fail> {
+    match letter {
+        b'c' => put_raw(alloc, b"objectClass".as_slice(), b"top".as_slice(), attrs)?,
+        b'n' => put_names(alloc, 600, attrs)?,
+        _ => put_description(alloc, 2_100_000, attrs)?,
+    }
+    Ok(())
+}
+
+fn lettered(alloc: Global, letters: &[u8], text: &[u8]) -> Result<RawAttrList, Fail> {
+    let mut attrs = if text.is_empty() {
+        Items::new(alloc)
+    } else {
+        raw_attrs(alloc, text)?
+    };
+    for letter in letters {
+        put_letter(alloc, *letter, &mut attrs)?;
+    }
+    Ok(attrs)
+}
+
+/// The first refusal, where both rows are refused.
+fn first<'a>(earlier: &'a [u8], later: &'a [u8]) -> &'a [u8] {
+    match earlier {
+        b"0 " => later,
+        _ => earlier,
+    }
+}
+
+fn try_list(
+    rt: &impl Abort,
+    alloc: Global,
+    view: &PlainView,
+    suffix: &Suffix,
+    rows: [&[u8]; 3],
+) -> Result<(), Fail> {
+    let [asker, name, list] = rows;
+    let mut asked = asker.split(|b| *b == b'/');
+    let mut named = name.split(|b| *b == b'/');
+    let mut listed = list.split(|b| *b == b'/');
+    let first_told = asked.next().ok_or("an answer")?;
+    let then_told = named.next().ok_or("an answer")?;
+    let last_told = listed.next().ok_or("an answer")?;
+    let expected = first(first_told, first(then_told, last_told));
+    let bound = identity(asked.next().ok_or("an identity")?);
+    let controls = controls(alloc, asked.next().ok_or("controls")?)?;
+    let object = named.next().ok_or("a name")?;
+    let letters = listed.next().ok_or("letters")?;
+    let attrs = lettered(alloc, letters, listed.next().ok_or("attributes")?)?;
+    let request = add(alloc, object, attrs, controls)?;
+    let told = told(alloc, &judged(alloc, view, suffix, &request, bound))?;
+    assert_eq!(rt; told.as_slice(), expected, "at {rows:?}");
+    Ok(())
+}
+
+fn try_lists(
+    rt: &impl Abort,
+    alloc: Global,
+    asker: &[u8],
+    name: &[u8],
+    lists: &[&[u8]],
+) -> Result<(), Fail> {
+    let suffix = suffix(alloc)?;
+    let view = view(alloc, &suffix)?;
+    for list in lists {
+        try_list(rt, alloc, &view, &suffix, [asker, name, list])?;
+    }
+    Ok(())
+}
+
+fn try_names(rt: &impl Abort, alloc: Global, asker: &[u8]) -> Result<(), Fail> {
+    for name in &NAMES {
+        try_lists(rt, alloc, asker, name, &LISTS)?;
+    }
+    Ok(())
+}
+
+#[test]
+fn of_two_faults_the_earlier_one_is_told(rt: HostRuntime) -> Result<(), Fail> {
+    for asker in &ASKERS {
+        try_names(&rt, rt.alloc(), asker)?;
+    }
+    try_lists(&rt, rt.alloc(), ASKERS[0], NAMES[0], &TWO_FAULTS)
 }
 
 // ---- what is written
