@@ -13,7 +13,8 @@ use Rattle.vector_core.specs.declared.answers.AcquireFault.{AcquireFault}
 use Rattle.vector_core.proofs.Lists.{if_true, if_false}
 use Rattle.pending_core.specs.Pending.{without}
 use Rattle.node_core.specs.Node.{Node}
-use Rattle.node_core.specs.Steps.{csn_at, csn_for, begin_answer, after_begin, KeeperFailed, Committed, change_at, target_at, kept_at, judged, commit_answer, with_csn, takes, after_commit, ended, after_acquire, released, is_held_by}
+use Rattle.ldap_rules.specs.Laws.{target_at, change_at}
+use Rattle.node_core.specs.Steps.{csn_at, csn_for, begin_answer, after_begin, KeeperFailed, Committed, kept_at, judged, commit_answer, with_csn, takes, after_commit, ended, after_acquire, released, is_held_by}
 use Rattle.node_core.specs.Sound.{IsSoundNode, GoesOn, IsOpen}
 use Rattle.node_core.proofs.Moves.{was_pending, goes_on, goes_on-then}
 use Rattle.node_core.proofs.Draws.{draw-above, csn_for-cases}
@@ -68,23 +69,23 @@ commit-alone n life csn verdict now fails s open' =
       | inr f ↦ subst (λ a. GoesAlone n (after_commit n csn verdict a)) (sym (if_false _ _ f)) (alone n n s (stays n s))
     ]
   where
-    by_fails : IsOpen n csn → (target : Option Uid) (body : Body) (new : Csn) → csn_for n csn (needed (target_at target csn) body) now ≡ Some new → (b : Bool) → GoesAlone n (after_commit n csn (Writes target body) (if b then KeeperFailed new else Committed new))
-    by_fails o target body new e true = (chosen n csn (needed (target_at target csn) body) now new s o e).0
+    by_fails : IsOpen n csn → (target : Option Uid) (body : Body) (new : Csn) → csn_for n csn (needed (target_at csn target) body) now ≡ Some new → (b : Bool) → GoesAlone n (after_commit n csn (Writes target body) (if b then KeeperFailed new else Committed new))
+    by_fails o target body new e true = (chosen n csn (needed (target_at csn target) body) now new s o e).0
     by_fails o target body new e false =
-        (let ch = chosen n csn (needed (target_at target csn) body) now new s o e in
+        (let ch = chosen n csn (needed (target_at csn target) body) now new s o e in
         let mid = with_csn n csn new in
-        let c = change_at target body new in
-        alone-then n (with_csn n csn new) (takes (with_csn n csn new) (change_at target body new)) ch.0
-        (alone (with_csn n csn new) (takes (with_csn n csn new) (change_at target body new)) ch.0.sound (takes-moves (with_csn n csn new) (change_at target body new) ch.0.sound ch.1)))
+        let c = change_at new target body in
+        alone-then n (with_csn n csn new) (takes (with_csn n csn new) (change_at new target body)) ch.0
+        (alone (with_csn n csn new) (takes (with_csn n csn new) (change_at new target body)) ch.0.sound (takes-moves (with_csn n csn new) (change_at new target body) ch.0.sound ch.1)))
 
-    by_csn : IsOpen n csn → (target : Option Uid) (body : Body) (new : Option Csn) → csn_for n csn (needed (target_at target csn) body) now ≡ new → GoesAlone n (after_commit n csn (Writes target body) (kept_at n new fails))
+    by_csn : IsOpen n csn → (target : Option Uid) (body : Body) (new : Option Csn) → csn_for n csn (needed (target_at csn target) body) now ≡ new → GoesAlone n (after_commit n csn (Writes target body) (kept_at n new fails))
     by_csn o target body None e = alone n n s (stays n s)
     by_csn o target body (Some new) e = by_fails o target body new e fails
 
     by_verdict : IsOpen n csn → (v : Verdict) → GoesAlone n (after_commit n csn v (judged n csn v now fails))
     by_verdict o (Refuses result) = alone n n s (stays n s)
     by_verdict o (Answers result) = alone n n s (stays n s)
-    by_verdict o (Writes target body) = by_csn o target body (csn_for n csn (needed (target_at target csn) body) now) refl
+    by_verdict o (Writes target body) = by_csn o target body (csn_for n csn (needed (target_at csn target) body) now) refl
 
 pub holds-alone : (n : Node) (holder : Option ℕ) → IsSoundNode n → GoesAlone n (record n { holder = holder })
 holds-alone n holder s = alone n (record n { holder = holder }) s (record {

@@ -17,7 +17,8 @@ use Rattle.vector_core.specs.declared.answers.AcquireFault.{AcquireFault}
 use Rattle.vector_core.proofs.Lists.{if_true, if_false}
 use Rattle.node_core.specs.declared.fault.BeginFault.{BeginFault}
 use Rattle.node_core.specs.Node.{Node, front}
-use Rattle.node_core.specs.Steps.{csn_for, after_begin, CommitAnswer, change_at, target_at, commit_answer, with_csn, after_commit, ended, after_acquire, released, is_held_by, apply_answer, after_apply}
+use Rattle.ldap_rules.specs.Laws.{target_at, change_at}
+use Rattle.node_core.specs.Steps.{csn_for, after_begin, CommitAnswer, commit_answer, with_csn, after_commit, ended, after_acquire, released, is_held_by, apply_answer, after_apply}
 use Rattle.node_core.specs.Sound.{IsPlain, IsSoundNode, IsOpen, IsSoundWrite}
 use Rattle.node_core.proofs.Orders.{lt_number, number_lt, plain_same, plain_apart}
 use Rattle.node_core.proofs.Fronts.{front_other-above}
@@ -38,17 +39,17 @@ with_csn-taken n old new = elim (cases_Bool (csn_eq old new)) [ inl t ↦ ap (λ
 
 -- what the change needs is below the CSN that is taken
 need_below : (n : Node) (csn : Csn) (now : ℕ) (target : Option Uid) (body : Body) (new : Csn) → IsSoundNode n → IsArrival n.taken → IsSoundWrite n.taken target body → IsPlain csn
-    → csn_for n csn (needed (target_at target csn) body) now ≡ Some new → 0 < new.rid → number_of (needed (target_at target new) body).csn < number_of new
+    → csn_for n csn (needed (target_at csn target) body) now ≡ Some new → 0 < new.rid → number_of (needed (target_at new target) body).csn < number_of new
 need_below n csn now target body new s closed sw plain e low =
-    elim (csn_for-cases n csn (needed (target_at target csn) body) now new e) [
+    elim (csn_for-cases n csn (needed (target_at csn target) body) now new e) [
       | inl kept ↦
-          (let l : number_of (needed (target_at target csn) body).csn < number_of csn = lt_number (needed (target_at target csn) body).csn csn (known_plain n.taken (needed (target_at target csn) body) closed.sound s.taken_plain (sw.known csn)) plain kept.0 in
+          (let l : number_of (needed (target_at csn target) body).csn < number_of csn = lt_number (needed (target_at csn target) body).csn csn (known_plain n.taken (needed (target_at csn target) body) closed.sound s.taken_plain (sw.known csn)) plain kept.0 in
           let c : number_of csn ≡ number_of new = ap number_of kept.1 in
-          let d : number_of (needed (target_at target csn) body).csn ≡ number_of (needed (target_at target new) body).csn = ap (λ (z : Uid). number_of z.csn) (sw.one_need csn new) in
+          let d : number_of (needed (target_at csn target) body).csn ≡ number_of (needed (target_at new target) body).csn = ap (λ (z : Uid). number_of z.csn) (sw.one_need csn new) in
           omega arith)
       | inr d ↦
           (let up = draw-above n.last now d.0 s.last_fits d.1 in
-          known_below n.taken (needed (target_at target new) body) new closed.sound (sw.known new) low
+          known_below n.taken (needed (target_at new target) body) new closed.sound (sw.known new) low
           (λ c h. subst (λ z. number_of c.csn < number_of z) d.2 (drawn-above n d.0 s up.0 c h)))
     ]
 
@@ -61,17 +62,17 @@ commit_closed n life csn verdict now fails s open' closed writes =
       (λ w.
           (let sw = w target body refl in
           let o = open' l in
-          let ch = chosen n csn (needed (target_at target csn) body) now new s o e in
+          let ch = chosen n csn (needed (target_at csn target) body) now new s o e in
           let plain : IsPlain new = ch.0.sound.pending_plain new ch.1.is_pending in
           let new_one : (d : Change) → Contains n.taken d → csn_eq d.csn new ≡ false =
           λ d h. plain_apart d.csn new (s.taken_plain d h) plain (ch.1.not_taken d (subst (λ z. Contains z d) (sym (with_csn-taken n csn new)) h)) in
           let own : new.rid ≡ n.rid = ch.0.sound.pending_own new ch.1.is_pending ∙ ch.0.on.same_rid in
           let low : 0 < new.rid = (let r : 0 < n.rid = s.rid_above in omega arith) in
           let high : new.rid < 65535 = (let r : n.rid < 65535 = s.rid_fits in omega arith) in
-          subst (λ z. IsArrival (z ++ change_at target body new ∷ [])) (sym (with_csn-taken n csn new))
-          (arrival_push n.taken (change_at target body new) closed new_one
+          subst (λ z. IsArrival (z ++ change_at new target body ∷ [])) (sym (with_csn-taken n csn new))
+          (arrival_push n.taken (change_at new target body) closed new_one
           (sw.passes new plain low high
-          (number_lt (needed (target_at target new) body).csn new (known_plain n.taken (needed (target_at target new) body) closed.sound s.taken_plain (sw.known new)) plain
+          (number_lt (needed (target_at new target) body).csn new (known_plain n.taken (needed (target_at new target) body) closed.sound s.taken_plain (sw.known new)) plain
           (need_below n csn now target body new s closed sw (s.pending_plain csn o.is_pending) e low))) (sw.known new)))),
     ))
     writes

@@ -32,7 +32,8 @@ use Rattle.node_core.specs.declared.fault.BeginFault.TheVariants as begin
 use Rattle.node_core.specs.declared.fault.CommitFault.{CommitFault}
 use Rattle.node_core.specs.declared.fault.CommitFault.TheVariants as commit
 use Rattle.node_core.specs.Node.{Node, front}
-use Rattle.node_core.specs.Steps.{moment_of, csn_at, csn_for, target_at, change_at, begin_answer, after_begin, Stale, Committed, kept_at, judged, commit_answer, after_commit, with_csn, written, ended, is_held_by, form_fault, formed_answer, apply_answer, after_apply}
+use Rattle.ldap_rules.specs.Laws.{target_at, change_at}
+use Rattle.node_core.specs.Steps.{moment_of, csn_at, csn_for, begin_answer, after_begin, Stale, Committed, kept_at, judged, commit_answer, after_commit, with_csn, written, ended, is_held_by, form_fault, formed_answer, apply_answer, after_apply}
 use Rattle.node_core.specs.Sound.{IsSoundNode, IsOpen}
 use Rattle.node_core.specs.Calls.{AreSame, IsAdded, IsTaken, IsMoved, IsPending, IsPendingTaken, Begins, CommitsUnder, Applies, csn_left}
 use Rattle.node_core.proofs.Fronts.{csns-from}
@@ -235,14 +236,14 @@ taken-open n old c pending last o new moved = record {
 committed-write : (n : Node) (old new : Csn) (target : Option Uid) (body : Body) → IsOpen n old → IsNew n old new → IsCommitted n (written (with_csn n old new) (Writes target body) new) old new
 committed-write n old new target body o (inl e) =
     subst (λ m. IsCommitted n (written m (Writes target body) new) old new) (sym (if_true _ _ (subst (λ z. csn_eq old z ≡ true) e (csn_eq-same old))))
-    (taken-open n old (change_at target body new) n.pending n.last o (inl e) (subst (λ z. IsMoved (IsPending n) (IsPending n) old z) e (moved-same (IsPending n) old)))
+    (taken-open n old (change_at new target body) n.pending n.last o (inl e) (subst (λ z. IsMoved (IsPending n) (IsPending n) old z) e (moved-same (IsPending n) old)))
 committed-write n old new target body o (inr f) =
     subst (λ m. IsCommitted n (written m (Writes target body) new) old new) (sym (if_false _ _ f.2))
-    (taken-open n old (change_at target body new) (without n.pending old ++ new ∷ []) (moment_of new) o (inr f) (moved-drawn n old new o.is_pending f.0))
+    (taken-open n old (change_at new target body) (without n.pending old ++ new ∷ []) (moment_of new) o (inr f) (moved-drawn n old new o.is_pending f.0))
 
 -- what the answer Committed means
 committed-from : (n : Node) (life : ℕ) (csn : Csn) (v : Verdict) (now : ℕ) (new : Csn) → commit_answer n life csn v now false ≡ Committed new
-    → (life ≡ n.life) × ((target : Option Uid) × (body : Body) × (v ≡ Writes target body) × (csn_for n csn (needed (target_at target csn) body) now ≡ Some new))
+    → (life ≡ n.life) × ((target : Option Uid) × (body : Body) × (v ≡ Writes target body) × (csn_for n csn (needed (target_at csn target) body) now ≡ Some new))
 committed-from n life csn v now new e =
     let l = if_only (life == n.life) (judged n csn v now false) (Stale n.life) (Committed new) (λ q. cc) e in
     (eqb-true life n.life l.0, by_verdict v l.1)
@@ -251,10 +252,10 @@ committed-from n life csn v now new e =
     by_csn None q = absurd cc
     by_csn (Some c) q = cc
 
-    by_verdict : (w : Verdict) → judged n csn w now false ≡ Committed new → (target : Option Uid) × (body : Body) × (w ≡ Writes target body) × (csn_for n csn (needed (target_at target csn) body) now ≡ Some new)
+    by_verdict : (w : Verdict) → judged n csn w now false ≡ Committed new → (target : Option Uid) × (body : Body) × (w ≡ Writes target body) × (csn_for n csn (needed (target_at csn target) body) now ≡ Some new)
     by_verdict (Refuses r) q = absurd cc
     by_verdict (Answers r) q = absurd cc
-    by_verdict (Writes target body) q = (target, body, refl, by_csn (csn_for n csn (needed (target_at target csn) body) now) q)
+    by_verdict (Writes target body) q = (target, body, refl, by_csn (csn_for n csn (needed (target_at csn target) body) now) q)
 
 -- what a commit leaves, by its result
 pub record IsHandedBack (n left : Node) (old new : Csn) : Type 0 where
@@ -279,7 +280,7 @@ commit-leaves n left ticket v now (Ok receipt) s open' calm step =
     let o = open' f.0 in
     let w = f.1 in
     subst (λ m. IsCommitted n m ticket.csn receipt.csn) (sym (step.0.1 ∙ ap (λ z. after_commit n ticket.csn z (Committed receipt.csn)) w.2))
-    (committed-write n ticket.csn receipt.csn w.0 w.1 o (chosen-new n ticket.csn receipt.csn (needed (target_at w.0 ticket.csn) w.1) now s o.is_pending w.3))
+    (committed-write n ticket.csn receipt.csn w.0 w.1 o (chosen-new n ticket.csn receipt.csn (needed (target_at ticket.csn w.0) w.1) now s o.is_pending w.3))
 commit-leaves n left ticket v now (Err (back, commit.NoMemory)) s open' calm step = handed n left ticket back step.1 step.0
 commit-leaves n left ticket v now (Err (back, commit.Stale life node_life)) s open' calm step = handed n left ticket back step.0.1 step.1
 commit-leaves n left ticket v now (Err (back, commit.Refused answer)) s open' calm step = handed n left ticket back step.0.1 step.1

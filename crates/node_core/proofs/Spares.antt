@@ -20,7 +20,8 @@ use Rattle.vector_core.proofs.Lists.{if_true, if_false, filter-Contains}
 use Rattle.pending_core.specs.Pending.{without}
 use Rattle.node_core.specs.declared.fault.BeginFault.{BeginFault}
 use Rattle.node_core.specs.Node.{Node}
-use Rattle.node_core.specs.Steps.{csn_at, csn_for, after_begin, CommitAnswer, Stale, Refused, CommitExhausted, KeeperFailed, Committed, change_at, target_at, kept_at, judged, commit_answer, with_csn, after_commit, ended, after_acquire, released, is_held_by, apply_answer, after_apply}
+use Rattle.ldap_rules.specs.Laws.{target_at, change_at}
+use Rattle.node_core.specs.Steps.{csn_at, csn_for, after_begin, CommitAnswer, Stale, Refused, CommitExhausted, KeeperFailed, Committed, kept_at, judged, commit_answer, with_csn, after_commit, ended, after_acquire, released, is_held_by, apply_answer, after_apply}
 use Rattle.node_core.specs.Sound.{IsSoundNode, IsOpen}
 use Rattle.node_core.proofs.Orders.{plain_same, eq_same}
 use Rattle.node_core.proofs.Draws.{draw-above, reached_below, csn_for-cases}
@@ -128,25 +129,25 @@ apply-spares n from u now fails s fit = by_answer (apply_answer n from u now fai
 -- A COMMIT
 
 -- a fact of each answer that a commit can give
-pub commit_by : (n : Node) (life : ℕ) (csn : Csn) (verdict : Verdict) (now : ℕ) (fails : Bool) (P : Verdict → CommitAnswer → Type 0) → ((v : Verdict) → P v (Stale n.life)) → ((v : Verdict) (result : LdapResult) → P v (Refused result)) → ((v : Verdict) → P v (CommitExhausted n.last)) → (life ≡ n.life → (target : Option Uid) (body : Body) (new : Csn) → csn_for n csn (needed (target_at target csn) body) now ≡ Some new → P (Writes target body) (KeeperFailed new) × P (Writes target body) (Committed new)) → P verdict (commit_answer n life csn verdict now fails)
+pub commit_by : (n : Node) (life : ℕ) (csn : Csn) (verdict : Verdict) (now : ℕ) (fails : Bool) (P : Verdict → CommitAnswer → Type 0) → ((v : Verdict) → P v (Stale n.life)) → ((v : Verdict) (result : LdapResult) → P v (Refused result)) → ((v : Verdict) → P v (CommitExhausted n.last)) → (life ≡ n.life → (target : Option Uid) (body : Body) (new : Csn) → csn_for n csn (needed (target_at csn target) body) now ≡ Some new → P (Writes target body) (KeeperFailed new) × P (Writes target body) (Committed new)) → P verdict (commit_answer n life csn verdict now fails)
 commit_by n life csn verdict now fails P stale refused exhausted kept =
     elim (cases_Bool (life == n.life)) [
       | inl t ↦ subst (λ a. P verdict a) (sym (if_true _ _ t)) (by_verdict (eqb-true life n.life t) verdict)
       | inr f ↦ subst (λ a. P verdict a) (sym (if_false _ _ f)) (stale verdict)
     ]
   where
-    by_fails : life ≡ n.life → (target : Option Uid) (body : Body) (new : Csn) → csn_for n csn (needed (target_at target csn) body) now ≡ Some new → (b : Bool) → P (Writes target body) (if b then KeeperFailed new else Committed new)
+    by_fails : life ≡ n.life → (target : Option Uid) (body : Body) (new : Csn) → csn_for n csn (needed (target_at csn target) body) now ≡ Some new → (b : Bool) → P (Writes target body) (if b then KeeperFailed new else Committed new)
     by_fails l target body new e true = (kept l target body new e).0
     by_fails l target body new e false = (kept l target body new e).1
 
-    by_csn : life ≡ n.life → (target : Option Uid) (body : Body) (new : Option Csn) → csn_for n csn (needed (target_at target csn) body) now ≡ new → P (Writes target body) (kept_at n new fails)
+    by_csn : life ≡ n.life → (target : Option Uid) (body : Body) (new : Option Csn) → csn_for n csn (needed (target_at csn target) body) now ≡ new → P (Writes target body) (kept_at n new fails)
     by_csn l target body None e = exhausted (Writes target body)
     by_csn l target body (Some new) e = by_fails l target body new e fails
 
     by_verdict : life ≡ n.life → (v : Verdict) → P v (judged n csn v now fails)
     by_verdict l (Refuses result) = refused (Refuses result) result
     by_verdict l (Answers result) = refused (Answers result) result
-    by_verdict l (Writes target body) = by_csn l target body (csn_for n csn (needed (target_at target csn) body) now) refl
+    by_verdict l (Writes target body) = by_csn l target body (csn_for n csn (needed (target_at csn target) body) now) refl
 
 -- what stays pending is not the CSN that a commit takes
 pub chosen_apart : (n : Node) (csn : Csn) (id : Uid) (now : ℕ) (new : Csn) → IsSoundNode n → csn_for n csn id now ≡ Some new → (p : Csn) → Contains n.pending p → (IsThat csn p → ⊥) → number_of p ≢ number_of new
@@ -208,9 +209,9 @@ commit_leaves n life csn verdict now fails s open' =
     (λ l target body new e.
     (let o = open' l in
     let mid = with_csn n csn new in
-    let sp = with_csn-spares n csn (needed (target_at target csn) body) now new s o e in
-    let ch = chosen n csn (needed (target_at target csn) body) now new s o e in
-    let ap' = chosen_apart n csn (needed (target_at target csn) body) now new s e in (
+    let sp = with_csn-spares n csn (needed (target_at csn target) body) now new s o e in
+    let ch = chosen n csn (needed (target_at csn target) body) now new s o e in
+    let ap' = chosen_apart n csn (needed (target_at csn target) body) now new s e in (
       (weaken n (with_csn n csn new) n life csn l sp, ch.1, ap'),
       (
         record {
@@ -219,7 +220,7 @@ commit_leaves n life csn verdict now fails s open' =
               record {
                 is_pending = k.is_pending;
                 not_taken = λ c h same.
-                    elim (Contains-push_cases (with_csn n csn new).taken (change_at target body new) c h) [
+                    elim (Contains-push_cases (with_csn n csn new).taken (change_at new target body) c h) [
                       | inl q ↦ k.not_taken c q same
                       | inr q ↦ ap' p w.is_pending (λ q'. u (l, q')) (sym same ∙ sym (ap (λ (z : Change). number_of z.csn) q))
                     ];

@@ -32,7 +32,7 @@ entry_of-cons c v w o e =
       | inr d ↦ entry_of-past c v o d ∙ e ∙ sym (entry_of-past c w o d)
     ]
 
-later_of-comm : (a b : Csn) → later_of a b ≡ later_of b a
+pub later_of-comm : (a b : Csn) → later_of a b ≡ later_of b a
 later_of-comm a b =
     elim (later_of-cases a b) [
       | inl l ↦
@@ -142,11 +142,11 @@ entry_of-vector_of n o = entry_of-raised_by (filter (is_covered n) (csns_of n.ta
 -- ---- its order
 
 -- each entry's originator is below those behind it
-abbrev Rises : List Csn → Type 0
+abbrev pub Rises : List Csn → Type 0
 Rises [] = Unit {0}
 Rises (x ∷ xs) = ((y : Csn) → Contains xs y → x.rid < y.rid) × Rises xs
 
-Contains-raised : (c : Csn) (v : List Csn) (x : Csn) → Contains (raised c v) x → (c ≡ x) ⊎ Contains v x
+pub Contains-raised : (c : Csn) (v : List Csn) (x : Csn) → Contains (raised c v) x → (c ≡ x) ⊎ Contains v x
 Contains-raised c [] x h = Contains-cons_cases c [] x h
 Contains-raised c (d ∷ ds) x h =
     elim (cases_Bool (nat_lt d.rid c.rid)) [
@@ -178,7 +178,7 @@ Contains-raised_by (c ∷ cs) x h =
       | inr q ↦ Contains-there c cs x (Contains-raised_by cs x q)
     ]
 
-raised_rises : (c : Csn) (v : List Csn) → Rises v → Rises (raised c v)
+pub raised_rises : (c : Csn) (v : List Csn) → Rises v → Rises (raised c v)
 raised_rises c [] r = (λ y h. absurd (Contains-nil h), tt)
 raised_rises c (d ∷ ds) r =
     elim (cases_Bool (nat_lt d.rid c.rid)) [
@@ -224,7 +224,7 @@ raised_by_rises : (cs : List Csn) → Rises (raised_by cs)
 raised_by_rises [] = tt
 raised_by_rises (c ∷ cs) = raised_rises c (raised_by cs) (raised_by_rises cs)
 
-by_places : (v : List Csn) → Rises v → (i j : ℕ) → i < j → j < length v → (slice_index_or v i zero_csn).rid < (slice_index_or v j zero_csn).rid
+pub by_places : (v : List Csn) → Rises v → (i j : ℕ) → i < j → j < length v → (slice_index_or v i zero_csn).rid < (slice_index_or v j zero_csn).rid
 by_places [] r i j l h = absurd (omega arith)
 by_places (x ∷ xs) r i zero l h = absurd (omega arith)
 by_places (x ∷ xs) r zero (suc j) l h = r.0 (slice_index_or xs j zero_csn) (Contains-get_or xs j zero_csn (omega arith))

@@ -9,7 +9,8 @@ use Rattle.repl_data.specs.Check.{fault_of}
 use Rattle.repl_data.specs.Closed.{is_known, needed}
 use Rattle.pending_core.specs.declared.generator.Generator.{Generator}
 use Rattle.node_core.specs.Node.{Node, front}
-use Rattle.node_core.specs.Steps.{moment_of, target_at, change_at}
+use Rattle.ldap_rules.specs.Laws.{target_at, change_at}
+use Rattle.node_core.specs.Steps.{moment_of}
 
 -- the CSN of a change: each part within 16 bits, and subsequence 0
 pub record IsPlain (c : Csn) : Type 0 where
@@ -54,6 +55,6 @@ pub record IsOpen (n : Node) (csn : Csn) : Type 0 where
 -- what a verdict has to be: what it needs does not depend on the CSN and is known, and its change passes the check at each CSN
 -- above that
 pub record IsSoundWrite (taken : List Change) (target : Option Uid) (body : Body) : Type 0 where
-  pub one_need : (a b : Csn) → needed (target_at target a) body ≡ needed (target_at target b) body
-  pub known : (a : Csn) → is_known taken (needed (target_at target a) body) ≡ true
-  pub passes : (a : Csn) → IsPlain a → 0 < a.rid → a.rid < 65535 → csn_lt (needed (target_at target a) body).csn a ≡ true → fault_of (change_at target body a) ≡ None
+  pub one_need : (a b : Csn) → needed (target_at a target) body ≡ needed (target_at b target) body
+  pub known : (a : Csn) → is_known taken (needed (target_at a target) body) ≡ true
+  pub passes : (a : Csn) → IsPlain a → 0 < a.rid → a.rid < 65535 → csn_lt (needed (target_at a target) body).csn a ≡ true → fault_of (change_at a target body) ≡ None

@@ -2,7 +2,6 @@
 use Rattle.std.specs.Prelude.{ℕ, ◌+◌, Bool, false, not, ◌&&◌, ◌||◌, nat_lt, nat_le, ◌==◌, if◌then◌else◌, List, [], ◌∷◌, ◌++◌, map, filter, length, Option, Some, None, option_map, Result, Ok, Err}
 use Rattle.repl_data.specs.declared.csn.Csn.{Csn}
 use Rattle.repl_data.specs.declared.csn.Uid.{Uid}
-use Rattle.repl_data.specs.declared.change.Body.{Body}
 use Rattle.repl_data.specs.declared.change.Change.{Change}
 use Rattle.repl_data.specs.declared.change.Suffix.{Suffix}
 use Rattle.repl_data.specs.declared.change.Update.{Update}
@@ -16,6 +15,7 @@ use Rattle.ldap_types.specs.declared.request.Request.{Request}
 use Rattle.ldap_types.specs.declared.reply.Identity.{Identity}
 use Rattle.ldap_types.specs.declared.reply.LdapResult.{LdapResult}
 use Rattle.ldap_rules.specs.Verdict.{Verdict, Refuses, Writes, Answers, verdict_of}
+use Rattle.ldap_rules.specs.Laws.{target_at, change_at}
 use Rattle.vector_core.specs.Greatest.{greatest}
 use Rattle.vector_core.specs.Vector.{entry_of}
 use Rattle.vector_core.specs.declared.answers.Applied.{Applied}
@@ -70,14 +70,6 @@ pub data CommitAnswer : Type 0 where
   KeeperFailed : (csn : Csn) → CommitAnswer
   Committed : (csn : Csn) → CommitAnswer
 
--- the target of an add is the entry of its own CSN
-abbrev pub target_at : Option Uid → Csn → Uid
-target_at None csn = record { csn = csn }
-target_at (Some id) csn = id
-
-abbrev pub change_at : Option Uid → Body → Csn → Change
-change_at target body csn = record { csn = csn; target = target_at target csn; body = body }
-
 -- the ticket's CSN where the id that the change needs is below it, else the next one that the node draws
 abbrev pub csn_for : Node → Csn → Uid → ℕ → Option Csn
 csn_for n csn id now = if csn_lt id.csn csn then Some csn else option_map (csn_at n.rid) (draw n.last now)
@@ -89,7 +81,7 @@ kept_at n (Some csn) fails = if fails then KeeperFailed csn else Committed csn
 abbrev pub judged : Node → Csn → Verdict → ℕ → Bool → CommitAnswer
 judged n csn (Refuses result) now fails = Refused result
 judged n csn (Answers result) now fails = Refused result
-judged n csn (Writes target body) now fails = kept_at n (csn_for n csn (needed (target_at target csn) body) now) fails
+judged n csn (Writes target body) now fails = kept_at n (csn_for n csn (needed (target_at csn target) body) now) fails
 
 -- A commit of the ticket of this life and CSN: the first of these that fits. `fails` says whether the keeper fails if it is asked.
 abbrev pub commit_answer : Node → ℕ → Csn → Verdict → ℕ → Bool → CommitAnswer
@@ -104,7 +96,7 @@ abbrev pub takes : Node → Change → Node
 takes n c = record n { taken = n.taken ++ c ∷ [] }
 
 abbrev pub written : Node → Verdict → Csn → Node
-written n (Writes target body) csn = takes n (change_at target body csn)
+written n (Writes target body) csn = takes n (change_at csn target body)
 written n (Refuses result) csn = n
 written n (Answers result) csn = n
 

@@ -35,6 +35,9 @@ pub trait NodeCalls {
     /// It is committed besides.
     ghost is_committed: { Self → Csn → Type 0 };
 
+    /// All that stands beside the node is as it was, from the one value to the other.
+    ghost keeps: { Self → Self → Type 0 };
+
     /// The update that is applied in place of the given one.
     ghost heard: { Self → Update → Update };
 
@@ -44,6 +47,7 @@ pub trait NodeCalls {
     /// Draws a CSN at the time `now`, in seconds since 1970, and makes it pending.
     fn begin(&mut self, alloc: Global, now: u32) -> Result<Ticket, BeginFault>
         ensures meets { follows self.old (node self.old) (met self.old self.new) }
+        ensures beside { keeps self.old self.new }
         ensures life { (met self.old self.new).life ≡ (node self.old).life }
         ensures count { faults self.old ≤ faults self.new }
         ensures step { Begins (met self.old self.new) now result (node self.new) }
@@ -65,6 +69,7 @@ pub trait NodeCalls {
         requires uncommitted { ticket.life ≡ (node self.old).life → is_committed self.old ticket.csn → ⊥ }
         requires write { IsWrite request.now bound }
         ensures meets { follows self.old (node self.old) (met self.old self.new) }
+        ensures beside { keeps self.old self.new }
         ensures life { (met self.old self.new).life ≡ (node self.old).life }
         ensures count { faults self.old ≤ faults self.new }
         ensures step { Commits judge_view (met self.old self.new) ticket request.now bound now result (node self.new) }
@@ -79,6 +84,7 @@ pub trait NodeCalls {
         requires open { ticket.life ≡ (node self.old).life → is_open self.old ticket.csn }
         requires uncommitted { ticket.life ≡ (node self.old).life → is_committed self.old ticket.csn → ⊥ }
         ensures meets { follows self.old (node self.old) (met self.old self.new) }
+        ensures beside { keeps self.old self.new }
         ensures life { (met self.old self.new).life ≡ (node self.old).life }
         ensures count { faults self.old ≤ faults self.new }
         ensures step { node self.new ≡ ended (met self.old self.new) ticket.life ticket.csn }
@@ -91,6 +97,7 @@ pub trait NodeCalls {
     fn settle(&mut self, receipt: Receipt)
         requires committed { receipt.life ≡ (node self.old).life → is_committed self.old receipt.csn }
         ensures meets { follows self.old (node self.old) (met self.old self.new) }
+        ensures beside { keeps self.old self.new }
         ensures life { (met self.old self.new).life ≡ (node self.old).life }
         ensures count { faults self.old ≤ faults self.new }
         ensures step { node self.new ≡ ended (met self.old self.new) receipt.life receipt.csn }
@@ -101,6 +108,7 @@ pub trait NodeCalls {
     /// Lets a supplier begin to send, at the time `now` in seconds since 1970.
     fn acquire(&mut self, alloc: Global, start: &Start, now: u32) -> Result<(), AcquireFault>
         ensures meets { follows self.old (node self.old) (met self.old self.new) }
+        ensures beside { keeps self.old self.new }
         ensures life { (met self.old self.new).life ≡ (node self.old).life }
         ensures count { faults self.old ≤ faults self.new }
         ensures step { Acquires (met self.old self.new) start.now now result (node self.new) }
@@ -110,6 +118,7 @@ pub trait NodeCalls {
     /// The supplier holds the node no longer.
     fn release(&mut self, rid: u16)
         ensures meets { follows self.old (node self.old) (met self.old self.new) }
+        ensures beside { keeps self.old self.new }
         ensures life { (met self.old self.new).life ≡ (node self.old).life }
         ensures count { faults self.old ≤ faults self.new }
         ensures step { node self.new ≡ released (met self.old self.new) rid }
@@ -119,6 +128,7 @@ pub trait NodeCalls {
     /// The change of least CSN that the node's vector covers, and the other vector does not.
     fn offer(&mut self, alloc: Global, beyond: &Vector) -> Result<Offer, NoMemory>
         ensures meets { follows self.old (node self.old) (met self.old self.new) }
+        ensures beside { keeps self.old self.new }
         ensures life { (met self.old self.new).life ≡ (node self.old).life }
         ensures count { faults self.old ≤ faults self.new }
         ensures step { Offers (met self.old self.new) beyond.now result }
@@ -135,6 +145,7 @@ pub trait NodeCalls {
         now: u32,
     ) -> Result<Applied, ApplyFault>
         ensures meets { follows self.old (node self.old) (met self.old self.new) }
+        ensures beside { keeps self.old self.new }
         ensures life { (met self.old self.new).life ≡ (node self.old).life }
         ensures count { faults self.old ≤ faults self.new }
         ensures step { Applies (met self.old self.new) from (heard self.old update.now) now result (node self.new) }
@@ -145,6 +156,7 @@ pub trait NodeCalls {
     /// The update vector.
     fn vector(&mut self, alloc: Global) -> Result<Vector, NoMemory>
         ensures meets { follows self.old (node self.old) (met self.old self.new) }
+        ensures beside { keeps self.old self.new }
         ensures life { (met self.old self.new).life ≡ (node self.old).life }
         ensures count { faults self.old ≤ faults self.new }
         ensures step { IfOk result (λ vector. vector ≡ vector_of (met self.old self.new)) }

@@ -3,7 +3,8 @@ ghost use Rattle.repl_data.specs.Order.{csn_eq};
 ghost use Rattle.repl_data.specs.Closed.{needed};
 ghost use Rattle.ldap_rules.specs.Verdict.{Writes, IsVerdict};
 ghost use Rattle.pending_core.specs.Pending.{without, IsAbove};
-ghost use Rattle.node_core.specs.Steps.{csn_for, target_at, moment_of, with_csn, takes, judge_view, verdict_at};
+ghost use Rattle.ldap_rules.specs.Laws.{target_at};
+ghost use Rattle.node_core.specs.Steps.{csn_for, moment_of, with_csn, takes, judge_view, verdict_at};
 ghost use Rattle.node_core.specs.Calls.{Commits, CommitsUnder, IsWrite, IsPending, IsPendingTaken};
 ghost use Rattle.node_core.specs.Kept.{IsChosen};
 ghost use Rattle.node_core.specs.Sound.{IsOpen};
@@ -21,7 +22,7 @@ use std::alloc::Global;
 
 /// The entry that a write changes: that of its own CSN, where it is an add.
 fn target_at(target: Option<Uid>, csn: Csn) -> Uid
-    ensures { result ≡ target_at target csn }
+    ensures { result ≡ target_at csn target }
 {
     match target {
         Some(id) => id,

@@ -25,6 +25,8 @@ impl NodeCalls for NodeState {
 
     ghost is_committed = { IsPendingTaken };
 
+    ghost keeps = { λ _ _. Unit {0} };
+
     ghost heard = { λ _ update. update };
 
     ghost faults = { λ _. 0 };
