@@ -1,5 +1,5 @@
 -- What a commit that failed makes of a ticket that is held.
-use Rattle.std.proofs.Common.{◌≡◌, ◌≢◌, ℕ, Bool, true, false, List, refl, sym, ap, subst, ◌∙◌, Contains, Option, Some, None}
+use Rattle.std.proofs.Common.{◌≡◌, ◌≢◌, ℕ, false, List, refl, sym, ap, subst, ◌∙◌, Option, Some, None}
 use Rattle.std.specs.Prelude.{Result, Ok, Err, IfOk, OnErr, IfSome, IsSome, IsErr}
 use Rattle.std.proofs.lemmas.Bool.{true≢false}
 use Rattle.vector_core.proofs.Lists.{Contains-map}
@@ -22,7 +22,7 @@ use Rattle.world_core.specs.declared.commit.Failure.{Failure}
 use Rattle.world_core.specs.declared.event.Happened.{Happened}
 use Rattle.world_core.specs.World.{Ticket, node_of, with_node, ticket_after, commit_happened}
 use Rattle.world_core.specs.Held.{answer_of}
-use Rattle.world_core.specs.Commits.{CommitsHeld, held_verdict, held_answer}
+use Rattle.world_core.specs.Commits.{CommitsHeld, held_verdict}
 use Rattle.world_core.proofs.Outcomes.{same_node}
 
 -- an open ticket is not committed

@@ -24,3 +24,6 @@ pub mod Later
 pub mod Writing
 pub mod Judging
 pub mod WriteSteps
+pub mod CallsKept
+pub mod AtTickets
+pub mod AtCalls

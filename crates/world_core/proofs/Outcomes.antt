@@ -1,6 +1,6 @@
 -- What each event comes to, from the parts that the code finds.
-use Rattle.std.proofs.Common.{◌≡◌, ℕ, zero, suc, ◌+◌, ◌-◌, ◌<◌, ◌≤◌, Bool, true, false, ◌&&◌, ◌==◌, List, [], ◌∷◌, ◌++◌, refl, sym, ap, subst, ◌∙◌, arith, Contains, Option, Some, None, find, filter, position, get_or, eqb-true, length, slice_set}
-use Rattle.std.specs.Prelude.{◌≢◌, Result, Ok, Err, IfOk, OnErr, if◌then◌else◌}
+use Rattle.std.proofs.Common.{◌≡◌, ℕ, zero, suc, ◌-◌, ◌<◌, ◌≤◌, List, refl, sym, ap, ◌∙◌, arith, Some, find, position, get_or, eqb-true, length, slice_set}
+use Rattle.std.specs.Prelude.{◌≢◌, Result, Ok, Err, IfOk, OnErr}
 use Rattle.repl_data.specs.declared.csn.Csn.{Csn}
 use Rattle.ldap_types.specs.declared.request.Request.{Request}
 use Rattle.ldap_types.specs.declared.reply.Identity.{Identity}
@@ -9,15 +9,12 @@ use Rattle.node_core.specs.declared.fault.BeginFault.TheVariants as begin
 use Rattle.node_core.specs.declared.ticket.Ticket.{Ticket as NodeTicket}
 use Rattle.node_core.specs.Calls.{Begins}
 use Rattle.std.proofs.lemmas.List.{set-get_or, get_or_default}
-use Rattle.vector_core.proofs.Lists.{if_true, if_false}
 use Rattle.node_core.specs.Node.{Node, new_node}
-use Rattle.node_core.specs.Steps.{Judge, judge_view, begin_answer, after_begin, CommitAnswer, Stale, Refused, CommitExhausted, KeeperFailed, Committed, ended}
+use Rattle.node_core.specs.Steps.{judge_view, begin_answer, after_begin, CommitAnswer, Stale, Refused, CommitExhausted, KeeperFailed, Committed, ended}
 use Rattle.std.specs.List.{insert, remove}
-use Rattle.world_core.specs.declared.event.Event.{Event}
-use Rattle.world_core.specs.declared.event.Event.TheVariants.{Start}
 use Rattle.world_core.specs.declared.event.Happened.{Happened}
 use Rattle.world_core.specs.declared.event.Happened.TheVariants as what
-use Rattle.world_core.specs.World.{World, Ticket, Outcome, node_of, with_node, node_in, is_node, no_suffix, new_ticket, with_ticket, started, step, nothing_such, ticket_in, ticket_after, commit_happened, commit_ticket, end_ticket, without_ticket}
+use Rattle.world_core.specs.World.{World, Ticket, node_of, with_node, node_in, no_suffix, new_ticket, with_ticket, started, ticket_in, ticket_after, commit_happened, commit_ticket, end_ticket, without_ticket}
 use Rattle.world_core.specs.Laws.{AreRising, IsNode}
 use Rattle.world_core.proofs.Honest.{node_of-here}
 use Rattle.world_core.specs.Commits.{CommitsHeld, held_answer}

@@ -1,9 +1,7 @@
 -- What each event of a session comes to, from the parts that the code finds.
-use Rattle.std.proofs.Common.{◌≡◌, ◌≢◌, ℕ, zero, suc, ◌+◌, ◌-◌, ◌<◌, ◌≤◌, Bool, true, false, ◌&&◌, ◌==◌, List, [], ◌∷◌, ◌++◌, length, get_or, find, refl, sym, ap, subst, ◌∙◌, arith, Contains, Option, Some, None, eqb-true}
-use Rattle.std.specs.Prelude.{Result, Ok, Err, if◌then◌else◌, slice_get}
+use Rattle.std.proofs.Common.{◌≡◌, ◌≢◌, ℕ, ◌+◌, false, ◌&&◌, ◌==◌, List, [], ◌∷◌, ◌++◌, length, refl, sym, ap, subst, ◌∙◌, Some, None, eqb-true}
+use Rattle.std.specs.Prelude.{Result, Ok, Err}
 use Rattle.std.proofs.lemmas.Bool.{and_parts}
-use Rattle.std.proofs.lemmas.Option.{slice_get-get_or}
-use Rattle.vector_core.proofs.Lists.{if_true, if_false}
 use Rattle.repl_data.specs.declared.csn.Csn.{Csn}
 use Rattle.repl_data.specs.declared.change.Update.{Update}
 use Rattle.vector_core.specs.declared.answers.Start.{Start}
@@ -17,7 +15,7 @@ use Rattle.node_core.specs.Steps.{offer, apply_answer, after_apply, acquire_faul
 use Rattle.node_core.specs.Calls.{Acquires, Applies}
 use Rattle.world_core.specs.declared.event.Happened.{Happened}
 use Rattle.world_core.specs.declared.event.Happened.TheVariants as what
-use Rattle.world_core.specs.World.{World, Session, Offered, Outcome, node_of, with_node, node_in, session_in, with_session, update_in, acquired, acquire_of, offered, offer_in, deliver}
+use Rattle.world_core.specs.World.{World, Session, Offered, with_node, node_in, session_in, with_session, acquired, acquire_of, offered, offer_in, deliver}
 use Rattle.world_core.proofs.Advances.{find-Contains}
 use Rattle.world_core.proofs.Outcomes.{same_node}
 

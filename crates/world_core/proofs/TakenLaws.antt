@@ -1,5 +1,5 @@
 -- The change of each committed ticket stays taken, and so a world stays as its type keeps it.
-use Rattle.std.proofs.Common.{◌≡◌, ℕ, ◌⊎◌, inl, inr, Bool, true, false, not, ◌&&◌, ◌==◌, List, [], ◌∷◌, ◌++◌, map, refl, sym, ap, subst, ◌∙◌, arith, Contains, Option, Some, None}
+use Rattle.std.proofs.Common.{◌≡◌, ℕ, ◌⊎◌, inl, inr, true, false, ◌&&◌, ◌==◌, List, [], ◌∷◌, ◌++◌, refl, sym, ap, subst, ◌∙◌, arith, Contains, Option, Some, None}
 use Rattle.std.specs.Prelude.{◌≤◌, IfSome, IfOk, OnErr, Result, Ok, Err}
 use Rattle.std.proofs.lemmas.Bool.{cases_Bool, true≢false}
 use Rattle.std.proofs.lemmas.List.Elements.{Contains-push}
@@ -8,10 +8,8 @@ use Rattle.repl_data.specs.declared.csn.Csn.{Csn}
 use Rattle.repl_data.specs.declared.change.Change.{Change}
 use Rattle.repl_data.specs.declared.change.Body.{Body}
 use Rattle.repl_data.specs.declared.csn.Uid.{Uid}
-use Rattle.repl_data.specs.Closed.{needed}
 use Rattle.ldap_types.specs.declared.request.Request.{Request}
 use Rattle.ldap_types.specs.declared.reply.Identity.{Identity}
-use Rattle.ldap_types.specs.declared.reply.LdapResult.{LdapResult}
 use Rattle.ldap_rules.specs.Verdict.{Verdict, Refuses, Writes, Answers}
 use Rattle.change_log.specs.Log.{csns_of}
 use Rattle.vector_core.specs.declared.answers.AcquireFault.{AcquireFault}
@@ -21,12 +19,13 @@ use Rattle.repl_data.specs.declared.items.NoMemory.{NoMemory}
 use Rattle.node_core.specs.declared.fault.BeginFault.{BeginFault}
 use Rattle.node_core.specs.declared.fault.BeginFault.TheVariants as begin
 use Rattle.node_core.specs.Node.{Node}
-use Rattle.node_core.specs.Steps.{Judge, judge_view, begin_answer, offer, CommitAnswer, Stale, Refused, CommitExhausted, KeeperFailed, Committed, commit_answer, judged, kept_at, csn_for, target_at, change_at, with_csn, written, after_commit}
+use Rattle.ldap_rules.specs.Laws.{change_at}
+use Rattle.node_core.specs.Steps.{Judge, judge_view, begin_answer, offer, CommitAnswer, Stale, Refused, CommitExhausted, KeeperFailed, Committed, commit_answer, judged, with_csn, written, after_commit}
 use Rattle.world_core.specs.declared.event.Event.{Event}
 use Rattle.world_core.specs.declared.event.Event.TheVariants.{Clock, Start, Commit, Settle, Abort, Acquire, Release, Offer, Deliver, Vector, Dump}
 use Rattle.world_core.specs.declared.event.Happened.{Happened}
 use Rattle.world_core.specs.declared.event.Happened.TheVariants as what
-use Rattle.world_core.specs.World.{World, Ticket, Session, Offered, Outcome, Call, CallBegin, CallCommit, CallEnd, CallAcquire, CallRelease, CallApply, Deed, Happens, Calls, called, after, after_all, node_of, with_node, node_in, is_node, new_world, ticket_in, without_ticket, with_ticket, new_ticket, session_in, update_in, ticket_verdict, ticket_answer, step, started, ticket_after, commit_ticket, end_ticket, acquired, acquire_of, release, offered, offer_in, deliver}
+use Rattle.world_core.specs.World.{World, Ticket, Session, Offered, Outcome, Call, CallBegin, CallCommit, CallEnd, CallAcquire, CallRelease, CallApply, Deed, Happens, Calls, called, after, after_all, node_of, with_node, node_in, is_node, new_world, ticket_in, with_ticket, new_ticket, session_in, update_in, ticket_verdict, ticket_answer, step, started, ticket_after, commit_ticket, end_ticket, acquired, acquire_of, offered, offer_in, deliver}
 use Rattle.world_core.specs.Laws.{IsNode, AllGoOn, May, MayHappen, IsHonest, IsRun, Leads, AreRising}
 use Rattle.world_core.specs.Taken.{AreTaken, IsKept}
 use Rattle.world_core.proofs.Honest.{node_of-here}
@@ -62,7 +61,7 @@ pub taken-new : (n : Node) (life : ℕ) (csn : Csn) (v : Verdict) (now : ℕ) (n
 taken-new n life csn v now new e =
     let w = committed-is n csn v now new (committed-here n life csn v now new e) in
     subst (λ x. Contains (csns_of (written (with_csn n csn new) x new).taken) new) (sym w.2)
-    (map-Contains (λ (c : Change). c.csn) ((with_csn n csn new).taken ++ change_at w.0 w.1 new ∷ []) (change_at w.0 w.1 new) (Contains-push (with_csn n csn new).taken (change_at w.0 w.1 new)))
+    (map-Contains (λ (c : Change). c.csn) ((with_csn n csn new).taken ++ change_at new w.0 w.1 ∷ []) (change_at new w.0 w.1) (Contains-push (with_csn n csn new).taken (change_at new w.0 w.1)))
 
 -- ---- tickets
 

@@ -22,7 +22,8 @@ use Rattle.world_core.specs.declared.event.Event.{Event}
 use Rattle.world_core.specs.declared.event.Event.TheVariants.{Clock, Start, Commit, Settle, Abort, Acquire, Release, Offer, Deliver, Vector, Dump}
 use Rattle.world_core.specs.declared.event.Happened.{Happened}
 use Rattle.world_core.specs.World.{World, Ticket, Session, Offered, Outcome, CallBegin, CallCommit, CallEnd, CallAcquire, CallRelease, CallApply, Deed, Happens, Calls, after, node_of, with_node, node_in, is_node, ticket_in, without_ticket, with_ticket, new_ticket, session_in, update_in, ticket_verdict, ticket_answer, apply_at, step, started, ticket_after, commit_ticket, end_ticket, acquired, acquire_of, release, offered, offer_in, deliver}
-use Rattle.world_core.specs.Laws.{IsNode, AreTicketsSound, IsWrite, IsLive, IsFitting, MayHappen, May}
+use Rattle.node_core.specs.Calls.{IsWrite}
+use Rattle.world_core.specs.Laws.{IsNode, AreTicketsSound, IsLive, IsFitting, MayHappen, May}
 use Rattle.world_core.proofs.Honest.{node_of-here, with-IsNode}
 use Rattle.world_core.proofs.Advances.{fits_of}
 use Rattle.world_core.proofs.Events.{IsReady, is_node-means, if_cases, both, ticket-Contains, update_in-Contains}

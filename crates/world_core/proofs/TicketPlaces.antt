@@ -1,9 +1,9 @@
 -- Where a ticket stands among others, in rising order of number.
-use Rattle.std.proofs.Common.{◌≡◌, ◌≢◌, ℕ, ◌+◌, ◌<◌, ◌≤◌, inl, inr, Bool, true, false, not, cond, ◌==◌, List, [], ◌∷◌, length, get_or, filter, find, position, Option, Some, None, refl, sym, ap, subst, ◌∙◌, arith, Contains, nat_lt, nat_le, ltb-true, ltb-false, eqb-true}
+use Rattle.std.proofs.Common.{◌≡◌, ℕ, ◌<◌, inl, inr, Bool, true, false, not, ◌==◌, List, [], ◌∷◌, find, position, Some, None, refl, sym, ap, ◌∙◌, arith, Contains, nat_lt, nat_le, ltb-true, ltb-false, eqb-true}
 use Rattle.std.specs.List.{insert, remove, position_or_len}
 use Rattle.std.proofs.lemmas.Bool.{cases_Bool, le-leb, lt-leb, lt-ltb, le-ltb, ne_eqb}
 use Rattle.vector_core.proofs.Lists.{if_true, if_false, Contains-here, Contains-there}
-use Rattle.node_core.proofs.Draws.{Some-same, None-Some}
+use Rattle.node_core.proofs.Draws.{None-Some}
 use Rattle.world_core.specs.World.{Ticket, without_ticket, with_ticket}
 use Rattle.world_core.specs.Laws.{AreRising}
 use Rattle.world_core.proofs.Advances.{find-Contains}

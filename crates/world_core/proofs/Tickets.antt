@@ -9,7 +9,8 @@ use Rattle.node_core.specs.Steps.{Judge, verdict_at, begin_answer, CommitAnswer,
 use Rattle.node_core.specs.Sound.{IsOpen}
 use Rattle.node_core.proofs.Spares.{Spares, Unused, IsEnded, CommitLeaves, begin-spares, ended-spares, acquire-spares, released-spares, apply-spares, commit_leaves}
 use Rattle.world_core.specs.World.{World, Ticket, Call, CallBegin, CallCommit, CallEnd, CallAcquire, CallRelease, CallApply, called, node_of, with_node, node_in, without_ticket, with_ticket, committing}
-use Rattle.world_core.specs.Laws.{IsNode, AreTicketsSound, AreRising, IsWrite, IsLive, IsNoTicket, MayCall}
+use Rattle.node_core.specs.Calls.{IsWrite}
+use Rattle.world_core.specs.Laws.{IsNode, AreTicketsSound, AreRising, IsLive, IsNoTicket, MayCall}
 use Rattle.world_core.proofs.Honest.{node_of-here, node_of-apart, with-IsNode}
 use Rattle.world_core.proofs.Advances.{fits_of}
 use Rattle.world_core.proofs.Events.{IsReady}

@@ -1,5 +1,5 @@
 -- A write that a client asks for, from the parts that the code finds.
-use Rattle.std.proofs.Common.{◌≡◌, ◌≢◌, ℕ, Bool, true, false, List, [], refl, sym, ap, subst, ◌∙◌, Contains, Option, Some, None}
+use Rattle.std.proofs.Common.{◌≡◌, ℕ, true, false, List, refl, sym, ap, subst, ◌∙◌, Option, Some, None}
 use Rattle.std.specs.Prelude.{Result, Ok, Err, IfOk, OnErr, IfSome, IsSome}
 use Rattle.repl_data.specs.declared.csn.Csn.{Csn}
 use Rattle.repl_data.specs.declared.items.NoMemory.{NoMemory}
@@ -7,27 +7,26 @@ use Rattle.ldap_types.specs.declared.request.Request.{Request}
 use Rattle.ldap_types.specs.declared.reply.Identity.{Identity}
 use Rattle.ldap_types.specs.declared.reply.LdapResult.{LdapResult}
 use Rattle.ldap_rules.specs.Verdict.{Verdict}
-use Rattle.change_log.specs.Log.{csns_of}
 use Rattle.node_core.specs.declared.fault.CommitFault.{CommitFault}
 use Rattle.node_core.specs.declared.fault.CommitFault.TheVariants as commit
 use Rattle.node_core.specs.declared.ticket.Ticket.{Ticket as NodeTicket}
 use Rattle.node_core.specs.declared.ticket.Receipt.{Receipt}
 use Rattle.node_core.specs.Node.{Node}
 use Rattle.node_core.specs.Sound.{IsSoundNode, IsOpen}
-use Rattle.node_core.specs.Steps.{judge_view, verdict_at, begin_answer, after_begin, CommitAnswer, Stale, Refused, CommitExhausted, KeeperFailed, Committed, commit_answer, after_commit, ended}
-use Rattle.node_core.specs.Calls.{CommitsUnder, IsPending, IsPendingTaken}
+use Rattle.node_core.specs.Steps.{judge_view, verdict_at, begin_answer, after_begin, CommitAnswer, Committed, commit_answer, after_commit, ended}
+use Rattle.node_core.specs.Calls.{CommitsUnder, IsPendingTaken}
 use Rattle.node_core.proofs.Draws.{Some-same}
 use Rattle.node_core.proofs.Spares.{CommitLeaves, commit_leaves}
-use Rattle.world_core.specs.World.{World, CallBegin, CallEnd, Calls, node_of, with_node, node_in, begin_at, committing, end_at}
+use Rattle.world_core.specs.World.{World, CallBegin, CallEnd, node_of, with_node, node_in, begin_at, committing, end_at}
 use Rattle.world_core.specs.Write.{success, result_of, csn_after, finished, written_from, write_in}
-use Rattle.world_core.specs.Laws.{IsNode, IsLawful}
+use Rattle.world_core.specs.Laws.{IsNode}
 use Rattle.world_core.specs.Held.{answer_of}
 use Rattle.world_core.specs.Taken.{IsKept}
 use Rattle.world_core.proofs.Honest.{with-IsNode}
 use Rattle.world_core.proofs.Outcomes.{same_node}
-use Rattle.world_core.proofs.Failures.{FaultSays, open-untaken}
+use Rattle.world_core.proofs.Failures.{FaultSays}
 use Rattle.world_core.proofs.TakenLaws.{taken-new, called-kept, leads-kept}
-use Rattle.world_core.proofs.Writing.{begun-here, begun-open, none, write-leads}
+use Rattle.world_core.proofs.Writing.{none, write-leads}
 
 -- ---- commit and settle
 

@@ -1,5 +1,5 @@
 -- A write of a client is a run of calls, each of them allowed.
-use Rattle.std.proofs.Common.{◌≡◌, ℕ, ◌<◌, ◌≤◌, ◌≢◌, false, List, [], ◌∷◌, refl, sym, ap, subst, ◌∙◌, arith, Contains}
+use Rattle.std.proofs.Common.{◌≡◌, ℕ, ◌<◌, ◌≢◌, false, [], ◌∷◌, refl, sym, ap, subst, ◌∙◌, arith, Contains}
 use Rattle.std.specs.Prelude.{Result, Ok, Err}
 use Rattle.std.proofs.lemmas.List.Elements.{Contains-push}
 use Rattle.repl_data.specs.declared.csn.Csn.{Csn}
@@ -10,14 +10,14 @@ use Rattle.ldap_rules.specs.Verdict.{Verdict}
 use Rattle.node_core.specs.declared.fault.BeginFault.{BeginFault}
 use Rattle.node_core.specs.declared.fault.BeginFault.TheVariants as begin
 use Rattle.node_core.specs.Node.{Node}
-use Rattle.node_core.specs.Steps.{Judge, verdict_at, csn_at, begin_answer, after_begin, CommitAnswer, Stale, Refused, CommitExhausted, KeeperFailed, Committed, commit_answer, after_commit}
+use Rattle.node_core.specs.Steps.{Judge, verdict_at, csn_at, begin_answer, after_begin, CommitAnswer, Stale, Refused, CommitExhausted, KeeperFailed, Committed, after_commit}
 use Rattle.node_core.specs.Sound.{IsSoundNode, IsOpen}
 use Rattle.node_core.proofs.Draws.{draw-above, reached_below, begun-drawn}
 use Rattle.node_core.proofs.NodeSteps.{drawn-above}
-use Rattle.node_core.proofs.Spares.{IsThat, CommitLeaves, commit_leaves}
-use Rattle.world_core.specs.World.{World, Ticket, Call, CallBegin, CallCommit, CallEnd, Deed, Calls, node_of, with_node, node_in, begin_at, committing, commit_at, end_at}
+use Rattle.node_core.proofs.Spares.{CommitLeaves, commit_leaves}
+use Rattle.world_core.specs.World.{World, Ticket, CallBegin, CallCommit, CallEnd, Calls, node_of, node_in, begin_at, committing, commit_at}
 use Rattle.world_core.specs.Write.{csn_after, finished, written_from, write_in}
-use Rattle.world_core.specs.Laws.{IsNode, IsLawful, IsLive, IsNoTicket, May, Leads, law_of_writes}
+use Rattle.world_core.specs.Laws.{IsNode, IsLawful, IsNoTicket, May, Leads, law_of_writes}
 use Rattle.world_core.proofs.Honest.{node_of-here, with-IsNode}
 use Rattle.world_core.proofs.Kept.{after-lawful}
 

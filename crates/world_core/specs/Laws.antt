@@ -11,11 +11,12 @@ use Rattle.repl_data.specs.declared.csn.Uid.{Uid}
 use Rattle.repl_data.specs.declared.change.Body.{Body}
 use Rattle.ldap_types.specs.declared.request.Request.{Request}
 use Rattle.ldap_types.specs.declared.reply.Identity.{Identity}
-use Rattle.ldap_rules.specs.Verdict.{Writes, is_built, is_update}
+use Rattle.ldap_rules.specs.Verdict.{Writes}
 use Rattle.change_log.specs.Log.{prev_in}
 use Rattle.node_core.specs.Node.{Node, front, vector_of}
 use Rattle.node_core.specs.Steps.{Judge, form_fault}
 use Rattle.node_core.specs.Sound.{IsSoundNode, GoesOn, IsOpen, IsSoundWrite}
+use Rattle.node_core.specs.Calls.{IsWrite}
 use Rattle.world_core.specs.declared.event.Event.{Event}
 use Rattle.world_core.specs.declared.event.Event.TheVariants.{Clock, Start, Commit, Settle, Abort, Acquire, Release, Offer, Deliver, Vector, Dump}
 use Rattle.world_core.specs.Write.{write_in}
@@ -36,11 +37,6 @@ pub record AreSound (nodes : List Node) : Type 0 where
 -- a ticket of the present life of its node
 abbrev pub IsLive : List Node → Ticket → Type 0
 IsLive nodes t = t.life ≡ (node_of nodes t.node).life
-
--- a request that may be committed: a write that is built, and no update of another server
-pub record IsWrite (request : Request) (bound : Identity) : Type 0 where
-  pub built : is_built request.op ≡ true
-  pub plain : is_update request bound ≡ false
 
 -- tickets in rising order of number
 abbrev pub AreRising : List Ticket → Type 0

@@ -6,3 +6,4 @@ pub mod Held
 pub mod State
 pub mod Commits
 pub mod Sessions
+pub mod At

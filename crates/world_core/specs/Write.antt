@@ -1,5 +1,5 @@
 -- A write that a client asks for on a connection: a begin, a commit, and then a settle or an abort.
-use Rattle.std.specs.Prelude.{ℕ, [], codes, Result, Ok, Err}
+use Rattle.std.specs.Prelude.{ℕ, [], Result, Ok, Err}
 use Rattle.repl_data.specs.declared.csn.Csn.{Csn}
 use Rattle.ldap_types.specs.declared.request.Request.{Request}
 use Rattle.ldap_types.specs.declared.reply.Identity.{Identity}

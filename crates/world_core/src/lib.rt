@@ -1,6 +1,8 @@
 //! Up to eight nodes, and what passes between them.
 #![tactic(auto)]
 
+mod at;
+mod calls;
 mod commit;
 mod end;
 mod event;
@@ -18,6 +20,7 @@ mod told;
 mod world;
 mod write;
 
+pub use at::AtNode;
 pub use event::{CsnList, Event, Happened};
 pub use laws::{deed_laws, honest_laws, judge_laws, run_laws, write_laws};
 pub use parts::{Offered, Session};

@@ -4,10 +4,11 @@ ghost use Rattle.world_core.specs.World.{Ticket, ticket_in, session_in};
 ghost use Rattle.world_core.specs.Laws.{MayHappen};
 ghost use Rattle.world_core.specs.declared.event.Event.{Event};
 
+use crate::at::AtNode;
 use crate::event::{Event, Happened};
 use crate::world::World;
 use ldap_types::{Identity, LdapResult, Op, RawAttr, RawAttrList, Request};
-use node_core::{AcquireFault, Applied, ApplyFault};
+use node_core::{Applied, ApplyFault, BeginFault, NodeCalls};
 use repl_data::{AttrKey, Ava, Bytes, Csn, Items, NoMemory, Rdn, Suffix, Val};
 use std::alloc::Global;
 use std::test::Fail;
@@ -168,5 +169,48 @@ fn a_write_reaches_the_other_node(rt: HostRuntime) -> Result<(), Fail> {
         delivered(alloc, &mut world, 2, 1)?,
         Some(Err(ApplyFault::NotHolder))
     );
+    Ok(())
+}
+
+/// The CSN that is drawn at a node, however it is reached. Its ticket is given up.
+fn drawn<N: NodeCalls>(alloc: Global, node: &mut N, now: u32) -> Result<Csn, BeginFault> {
+    match node.begin(alloc, now) {
+        Ok(ticket) => {
+            let csn = ticket.csn();
+            node.abort(ticket);
+            Ok(csn)
+        }
+        Err(fault) => Err(fault),
+    }
+}
+
+#[test]
+fn a_call_reaches_its_node(rt: HostRuntime) -> Result<(), Fail> {
+    let alloc = rt.alloc();
+    let suffix = suffix(alloc)?;
+    assert!(rt; !World::empty(alloc).has_node(1));
+    let mut node = AtNode::new(World::new(alloc, 2, &suffix)?, 2);
+    let first = Csn {
+        time: 100,
+        seq: 0,
+        rid: 2,
+        sub: 0,
+    };
+    assert_eq!(rt; drawn(alloc, &mut node, 100), Ok(first));
+    assert!(rt; node.vector(alloc)?.entries().is_empty());
+    let mut world = node.into_world();
+    assert_eq!(rt; world.clock(), 0);
+    assert_eq!(rt;
+        written(alloc, &mut world, 2, b"ou=a,dc=example".as_slice())?,
+        Some(0)
+    );
+    let second = Csn {
+        time: 100,
+        seq: 1,
+        rid: 2,
+        sub: 0,
+    };
+    assert_eq!(rt; front(alloc, &mut world, 2)?, Some(second));
+    assert_eq!(rt; front(alloc, &mut world, 1)?, None);
     Ok(())
 }

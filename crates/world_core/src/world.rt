@@ -1,7 +1,9 @@
 ghost use Rattle.std.specs.Prelude.{◌≡◌, ◌≤◌, true, is_some, option_map, IfOk, OnErr};
+ghost use Rattle.repl_data.specs.declared.change.Suffix.{Suffix};
 ghost use Rattle.node_core.specs.Steps.{judge_view};
 ghost use Rattle.world_core.specs.World.{Ticket, new_world, is_node, step, ticket_in, session_in, update_in};
-ghost use Rattle.world_core.specs.Laws.{IsWrite, MayHappen, IsHonest};
+ghost use Rattle.node_core.specs.Calls.{IsWrite};
+ghost use Rattle.world_core.specs.Laws.{MayHappen, IsHonest};
 ghost use Rattle.world_core.specs.Write.{write_in};
 
 use crate::event::{Event, Happened};
@@ -18,7 +20,7 @@ use std::marker::Model;
 /// and each ticket that is not committed is open at its node.
 #[derive(Debug)]
 pub struct World {
-    state: WorldState,
+    pub(crate) state: WorldState,
 }
 
 impl Model for World {
@@ -62,6 +64,28 @@ impl World {
                 offered: Vec::new(alloc),
             },
         })
+    }
+
+    /// A world without nodes. Takes no memory.
+    pub fn empty(alloc: Global) -> World
+        ensures { (suffix : Suffix) → result ≡ new_world suffix 0 }
+    {
+        World {
+            state: WorldState {
+                nodes: Vec::new(alloc),
+                clock: 0,
+                tickets: Vec::new(alloc),
+                sessions: Vec::new(alloc),
+                offered: Vec::new(alloc),
+            },
+        }
+    }
+
+    /// The time that all nodes share, in seconds since 1970.
+    pub fn clock(&self) -> u32
+        ensures { result ≡ self.now.clock }
+    {
+        self.state.clock
     }
 
     /// Lets one event happen. Where memory is wanting, the world stays as it was.

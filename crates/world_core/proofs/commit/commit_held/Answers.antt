@@ -1,11 +1,11 @@
-use Rattle.std.proofs.Common.{◌≡◌, ◌∙◌, sym, ap, refl, subst}
+use Rattle.std.proofs.Common.{◌≡◌, ◌∙◌, sym, ap, subst}
 use Rattle.std.specs.Prelude.{IfOk, OnErr}
 use Rattle.node_core.specs.Sound.{IsOpen}
 use Rattle.world_core.specs.World.{Ticket, node_of}
 use Rattle.world_core.specs.Held.{stage_life, stage_csn, is_committed}
 use Rattle.world_core.specs.declared.held.Stage.{Stage}
 use Rattle.world_core.specs.Commits.{CommitsHeld, held_verdict}
-use Rattle.world_core.proofs.Failures.{open-untaken, held_open, fault-says, failed-ok, failed-err, FaultSays, IsTold}
+use Rattle.world_core.proofs.Failures.{open-untaken, held_open, fault-says, failed-ok, failed-err}
 use Rattle.world_core.proofs.commit.commit_held.Goals as goal
 
 pub commit_at-requires-clause-uncommitted : goal.commit_at-requires-clause-uncommitted

@@ -1,4 +1,4 @@
-use Rattle.std.proofs.Common.{rules, ◌≡◌, ◌-◌, sym, subst, slice_set}
+use Rattle.std.proofs.Common.{◌≡◌, ◌-◌, subst, slice_set}
 use Rattle.node_core.specs.Node.{Node}
 use Rattle.node_core.specs.Steps.{judge_view}
 use Rattle.node_core.specs.Calls.{Commits}

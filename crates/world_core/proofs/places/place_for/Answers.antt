@@ -1,4 +1,4 @@
-use Rattle.std.proofs.Common.{rules, ◌≡◌, ◌∙◌, sym}
+use Rattle.std.proofs.Common.{rules, ◌∙◌, sym}
 use Rattle.world_core.proofs.Finding.{position_some, position_none, position_or_len-le}
 use Rattle.world_core.proofs.TicketPlaces.{is_from}
 use Rattle.world_core.proofs.places.place_for.Goals as goal

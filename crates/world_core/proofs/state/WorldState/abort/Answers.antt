@@ -1,4 +1,4 @@
-use Rattle.std.proofs.Common.{◌≡◌, ◌∙◌, sym, ap, refl}
+use Rattle.std.proofs.Common.{◌∙◌, sym, ap}
 use Rattle.world_core.specs.declared.event.Happened.TheVariants as what
 use Rattle.std.proofs.Common.{find}
 use Rattle.world_core.specs.World.{end_ticket}

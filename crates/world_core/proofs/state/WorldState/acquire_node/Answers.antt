@@ -1,4 +1,4 @@
-use Rattle.std.proofs.Common.{◌≡◌, ◌∙◌, sym, ap, refl, subst, None}
+use Rattle.std.proofs.Common.{◌∙◌, sym, ap, subst, None}
 use Rattle.std.specs.Prelude.{Err}
 use Rattle.vector_core.specs.declared.answers.Start.{Start}
 use Rattle.node_core.specs.Steps.{acquire_fault, after_acquire}

@@ -1,5 +1,5 @@
-use Rattle.std.proofs.Common.{◌≡◌, ◌∙◌, sym, ap, refl, false, None}
-use Rattle.world_core.specs.World.{Ticket, node_in, with_node, with_ticket}
+use Rattle.std.proofs.Common.{◌∙◌, sym, ap, false, None}
+use Rattle.world_core.specs.World.{node_in, with_node, with_ticket}
 use Rattle.world_core.specs.State.{world_of}
 use Rattle.world_core.proofs.Outcomes.{start-began, start-failed, same_node, begins-failed, if_ok, on_err}
 use Rattle.world_core.proofs.state.WorldState.begin.Goals as goal

@@ -1,4 +1,4 @@
-use Rattle.std.proofs.Common.{◌≡◌, ◌∙◌, sym, ap, refl, subst, Some, false}
+use Rattle.std.proofs.Common.{◌≡◌, refl, subst, false}
 use Rattle.std.specs.Prelude.{IfSome}
 use Rattle.world_core.specs.World.{Ticket}
 use Rattle.world_core.specs.State.{world_of}

@@ -1,4 +1,4 @@
-use Rattle.std.proofs.Common.{◌≡◌, ◌∙◌, sym, ap, refl, subst, Some}
+use Rattle.std.proofs.Common.{◌∙◌, sym, ap, Some}
 use Rattle.world_core.specs.World.{node_of, node_in, with_node, deliver}
 use Rattle.world_core.specs.State.{world_of}
 use Rattle.world_core.proofs.Outcomes.{if_ok, on_err_then, same_node}

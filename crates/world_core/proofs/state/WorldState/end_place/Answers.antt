@@ -1,8 +1,8 @@
-use Rattle.std.proofs.Common.{rules, ◌≡◌, ◌∙◌, sym, ap, refl, subst, Some, Option}
+use Rattle.std.proofs.Common.{rules, sym, ap, subst, Option}
 use Rattle.ldap_types.specs.declared.reply.LdapResult.{LdapResult}
 use Rattle.world_core.specs.declared.event.Happened.{Happened}
 use Rattle.world_core.specs.declared.event.Happened.TheVariants as what
-use Rattle.world_core.specs.World.{Ticket, Outcome, ticket_in, end_ticket}
+use Rattle.world_core.specs.World.{Ticket, Outcome}
 use Rattle.world_core.specs.State.{world_of}
 use Rattle.world_core.specs.Taken.{IsKept}
 use Rattle.world_core.proofs.Events.{ticket-Contains}

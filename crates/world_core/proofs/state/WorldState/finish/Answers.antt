@@ -1,4 +1,3 @@
-use Rattle.std.proofs.Common.{◌≡◌, ◌∙◌, sym, ap, refl, subst}
 use Rattle.node_core.specs.Steps.{judge_view, verdict_at}
 use Rattle.world_core.specs.World.{node_of, node_in}
 use Rattle.world_core.specs.State.{world_of}

@@ -1,4 +1,4 @@
-use Rattle.std.proofs.Common.{◌≡◌, ◌∙◌, sym, ap, refl, subst, find, ◌&&◌, ◌==◌}
+use Rattle.std.proofs.Common.{◌∙◌, sym, ap, find, ◌&&◌, ◌==◌}
 use Rattle.vector_core.proofs.Lists.{if_true, if_false}
 use Rattle.world_core.specs.World.{Session, offer_in}
 use Rattle.world_core.specs.State.{world_of}

@@ -1,10 +1,10 @@
-use Rattle.std.proofs.Common.{◌≡◌, ◌≢◌, ◌<◌, ℕ, ◌∙◌, sym, ap, refl, subst, arith, Some, get_or}
+use Rattle.std.proofs.Common.{◌≡◌, ◌≢◌, ◌<◌, ◌∙◌, sym, ap, subst, arith, Some, get_or}
 use Rattle.std.specs.Prelude.{Ok}
 use Rattle.repl_data.specs.declared.csn.Csn.{Csn}
 use Rattle.repl_data.specs.declared.change.Update.{Update}
 use Rattle.repl_data.specs.Order.{zero_csn}
 use Rattle.vector_core.specs.declared.answers.Offer.{Offer}
-use Rattle.node_core.specs.Node.{Node, raised}
+use Rattle.node_core.specs.Node.{Node}
 use Rattle.node_core.specs.Steps.{offer}
 use Rattle.node_core.specs.Calls.{Offers}
 use Rattle.node_core.proofs.Offers.{offer-is}

@@ -1,4 +1,4 @@
-use Rattle.std.proofs.Common.{◌≡◌, ◌∙◌, sym, ap, refl, subst, List}
+use Rattle.std.proofs.Common.{◌∙◌, sym, ap, List}
 use Rattle.vector_core.proofs.Lists.{if_true, if_false}
 use Rattle.node_core.specs.Node.{Node}
 use Rattle.world_core.specs.declared.event.Happened.TheVariants as what

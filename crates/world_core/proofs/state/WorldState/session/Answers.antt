@@ -1,4 +1,4 @@
-use Rattle.std.proofs.Common.{◌≡◌, sym, ap, []}
+use Rattle.std.proofs.Common.{sym, ap, []}
 use Rattle.std.specs.Prelude.{is_some}
 use Rattle.world_core.proofs.state.WorldState.session.Goals as goal
 

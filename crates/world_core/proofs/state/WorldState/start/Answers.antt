@@ -1,4 +1,4 @@
-use Rattle.std.proofs.Common.{◌≡◌, ◌∙◌, sym, ap, refl}
+use Rattle.std.proofs.Common.{◌∙◌, sym, ap}
 use Rattle.vector_core.proofs.Lists.{if_true, if_false}
 use Rattle.node_core.specs.Steps.{begin_answer}
 use Rattle.world_core.specs.World.{node_in, started}

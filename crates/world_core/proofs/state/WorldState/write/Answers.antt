@@ -1,5 +1,4 @@
-use Rattle.std.proofs.Common.{◌≡◌, ◌∙◌, sym, ap, refl, subst, List}
-use Rattle.ldap_types.specs.declared.reply.LdapResult.{LdapResult}
+use Rattle.std.proofs.Common.{◌∙◌, sym, ap, subst}
 use Rattle.node_core.specs.Node.{Node}
 use Rattle.node_core.specs.Sound.{IsOpen}
 use Rattle.node_core.specs.Steps.{judge_view}

@@ -1,5 +1,4 @@
 use Rattle.std.proofs.Common.{sym, subst, ◌≡◌, true}
-use Rattle.std.specs.Prelude.{IfOk}
 use Rattle.ldap_types.specs.declared.reply.LdapResult.{LdapResult}
 use Rattle.node_core.specs.Steps.{judge_view}
 use Rattle.world_core.specs.World.{World, is_node}
