@@ -1,17 +1,18 @@
 -- Requests that are carried out one after the other.
-use Rattle.std.proofs.Common.{◌≡◌, ℕ, zero, suc, ◌+◌, ◌-◌, ◌^◌, ◌<◌, ◌≤◌, min, Bool, true, false, cond, List, [], ◌∷◌, ◌++◌, length, take, drop, Option, Some, None, Result, Ok, Err, refl, sym, ap, subst, ◌∙◌, append_assoc, append-nil, arith, length-append, length-drop}
-use Rattle.repl_data.specs.declared.items.NoMemory.{NoMemory}
+use Rattle.std.proofs.Common.{◌≡◌, ℕ, ◌+◌, ◌≤◌, false, List, [], ◌∷◌, ◌++◌, length, drop, Option, Some, None, Ok, Err, refl, sym, ap, subst, ◌∙◌, append_assoc, append-nil, arith}
 use Rattle.ldap_types.specs.declared.request.Request.{Request}
 use Rattle.ldap_types.specs.declared.request.Op.{Op}
 use Rattle.ldap_types.specs.declared.reply.LdapResult.{LdapResult}
 use Rattle.ldap_types.specs.declared.reply.ReplyOp.{ReplyOp}
 use Rattle.ldap_types.specs.declared.reply.Identity.{Identity}
-use Rattle.conn_core.specs.Stream.{first_request, is_unbind, BeginsWith, EndsSo}
-use Rattle.conn_core.specs.Serving.{Reach, Session, Serves, IsServed, AreServed, sent, reply_to, count_starved, used_up}
+use Rattle.conn_core.specs.Stream.{first_request, is_unbind, EndsSo}
+use Rattle.conn_core.specs.Serving.{Reach, Session, Serves, IsServed, sent, reply_to, count_starved, used_up}
 use Rattle.ldap_replies.specs.Form.{reply_bytes}
-use Rattle.conn_core.specs.declared.fed.Fed.{Fed}
+use Rattle.io_edge.specs.declared.machine.Fed.{Fed}
+use Rattle.io_edge.specs.declared.machine.Fed.TheVariants.{Running}
+use Rattle.ldap_requests.specs.Window.{More}
 use Rattle.conn_core.specs.declared.conn.Conn.{Conn}
-use Rattle.conn_core.specs.Feeding.{session, Carries, CarriesPart, IsCut, Leaves, Feeds, notice_of, held_of, is_end}
+use Rattle.conn_core.specs.Feeding.{session, Carries, CarriesPart, IsCut, StillWait, Feeds, notice_of, held_of, is_end}
 use Rattle.std.proofs.lemmas.List.{drop-drop}
 use Rattle.conn_core.proofs.Streams.{begins_next}
 
@@ -38,6 +39,17 @@ served_so c now r s node bound told h = record { result = told; served = h; repl
 pub sent_one : (id : ℕ) (op : Option ReplyOp) → length (sent id op) ≤ 1
 sent_one id None = omega arith
 sent_one id (Some op) = omega arith
+
+-- ---- the replies that waited
+
+pub still : (old new : List (List ℕ)) → new ≡ old → StillWait old new
+still old new e = ([], e ∙ sym (append-nil old))
+
+pub still_more : (old between new : List (List ℕ)) → StillWait old between → StillWait between new → StillWait old new
+still_more old between new a b = (a.0 ++ b.0, b.1 ∙ ap (λ (x : List (List ℕ)). x ++ b.0) a.1 ∙ append_assoc old a.0 b.0)
+
+pub still_bound : (old new : Conn) → new ≡ record old { bound = new.bound } → StillWait old.replies new.replies
+still_bound old new e = still old.replies new.replies (ap (λ (x : Conn). x.replies) e)
 
 -- ---- how a request leaves a connection
 
@@ -158,4 +170,16 @@ feeds_so c now piece old node fed new after stream whole at b same is k ends oth
   state = state_is new b after (notice_of fed) others.0 others.1 replies;
   held = held ∙ ap (λ (x : List ℕ). held_of fed (drop at x)) (sym same);
   closed = closed;
+}
+
+-- no request is whole yet
+pub feeds_none : {N : Type 0} (c : Reach N) (now : ℕ) (piece : List ℕ) (old new : Conn) (node : N) → first_request (old.held ++ piece) ≡ Err More → old.is_closed ≡ false → new ≡ record old { held = old.held ++ piece } → Feeds c now piece old node Running new node
+feeds_none c now piece old new node more fresh e = record {
+  left = old.held ++ piece;
+  last = session old node;
+  carried = carries_none c now (old.held ++ piece) (session old node);
+  ends = more;
+  state = state_is new old node [] (ap (λ (x : Conn). x.bound) e) (ap (λ (x : Conn). x.starved) e) (ap (λ (x : Conn). x.replies) e ∙ sym (append-nil old.replies));
+  held = ap (λ (x : Conn). x.held) e;
+  closed = ap (λ (x : Conn). x.is_closed) e ∙ fresh;
 }

@@ -1,13 +1,11 @@
 -- A stream is read in one way, and may be cut anywhere.
-use Rattle.std.proofs.Common.{◌≡◌, ◌≢◌, ℕ, zero, suc, ◌+◌, ◌-◌, ◌<◌, ◌≤◌, Bool, true, false, cond, List, [], ◌∷◌, ◌++◌, length, take, drop, Result, Ok, Err, refl, sym, ap, subst, ◌∙◌, append_assoc, arith, length-append, length-drop, inl, inr}
-use Rattle.std.proofs.lemmas.Bool.{cases_Bool}
+use Rattle.std.proofs.Common.{◌≡◌, ◌≢◌, ℕ, zero, suc, ◌≤◌, Bool, true, false, cond, List, [], ◌∷◌, ◌++◌, length, drop, Result, Ok, Err, refl, sym, ap, subst, ◌∙◌, append_assoc, arith, length-drop}
 use Rattle.std.proofs.Math.Seq.{drop-append_seam}
-use Rattle.vector_core.proofs.Lists.{if_true, if_false}
 use Rattle.ldap_types.specs.declared.request.Request.{Request}
 use Rattle.ldap_requests.specs.declared.fault.NotLdapWhy.{NotLdapWhy}
 use Rattle.ldap_requests.specs.Window.{Stop, More, Fault}
-use Rattle.conn_core.specs.declared.fed.Fed.{Fed}
-use Rattle.conn_core.specs.declared.fed.Fed.TheVariants.{Running, Unbound, BadBytes, Closed}
+use Rattle.io_edge.specs.declared.machine.Fed.{Fed}
+use Rattle.io_edge.specs.declared.machine.Fed.TheVariants.{Running, Unbound, BadBytes, Closed}
 use Rattle.conn_core.specs.Stream.{first_request, is_unbind, BeginsWith, EndsSo, IsStream}
 use Rattle.conn_core.specs.Whole.{Stream, stops, behind_first, stream_by, stream_within, stream_of, HasOneStream, MayBeCut}
 use Rattle.conn_core.proofs.Streams.{size_within, request_stays, fault_stays, none_in_nothing, begins_next}
@@ -79,7 +77,7 @@ not_fault r n place why e = absurd cc
 true_is_false : true ≡ false → ⊥
 true_is_false x = absurd cc
 
-no_end : (bytes : List ℕ) (r : Request) (size : ℕ) (fed : Fed) → first_request bytes ≡ Ok (r, size) → is_unbind r.op ≡ false → EndsSo bytes fed → ⊥
+pub no_end : (bytes : List ℕ) (r : Request) (size : ℕ) (fed : Fed) → first_request bytes ≡ Ok (r, size) → is_unbind r.op ≡ false → EndsSo bytes fed → ⊥
 unfolding found
 no_end bytes r size Running e un h = not_more r size (sym e ∙ h)
 no_end bytes r size Unbound e un h =
@@ -150,7 +148,7 @@ same_rest : (first first' others others' : List ℕ) → first ++ others ≡ fir
 same_rest first first' others others' e len =
     sym (drop-append_seam first others) ∙ ap (λ (n : ℕ). drop n (first ++ others)) len ∙ ap (λ (x : List ℕ). drop (length first') x) e ∙ drop-append_seam first' others'
 
-both_found : (r s : Request) (m n : ℕ) (bytes : List ℕ) → first_request bytes ≡ Ok (r, m) → first_request bytes ≡ Ok (s, n) → (r ≡ s) × (m ≡ n)
+pub both_found : (r s : Request) (m n : ℕ) (bytes : List ℕ) → first_request bytes ≡ Ok (r, m) → first_request bytes ≡ Ok (s, n) → (r ≡ s) × (m ≡ n)
 unfolding found
 both_found r s m n bytes e f = same_found r s m n (sym e ∙ f)
 

@@ -5,3 +5,8 @@ pub mod Carrying
 pub mod Notices
 pub mod Writes
 pub mod Cuts
+pub mod Builts
+pub mod Faults
+pub mod Alone
+pub mod Machines
+pub mod Taking

@@ -1,5 +1,5 @@
 -- The life of a node through the calls of a write, and that no commit of its own ticket is stale.
-use Rattle.std.proofs.Common.{◌≡◌, ℕ, Bool, true, false, ◌==◌, cond, refl, sym, subst, ◌∙◌, ap, arith, Option, Some, None, Result, Ok, Err, IfOk, ◌++◌, ◌∷◌, []}
+use Rattle.std.proofs.Common.{◌≡◌, ℕ, Bool, true, false, ◌==◌, cond, refl, ◌∙◌, ap, arith, Option, Some, None, Result, Ok, Err}
 use Rattle.std.proofs.lemmas.Bool.Decides.{nat_tests}
 use Rattle.ldap_types.specs.declared.request.Request.{Request}
 use Rattle.ldap_types.specs.declared.reply.Identity.{Identity}
@@ -13,9 +13,8 @@ use Rattle.node_core.specs.declared.fault.CommitFault.TheVariants as commit
 use Rattle.node_core.specs.declared.ticket.Ticket.{Ticket}
 use Rattle.node_core.specs.declared.ticket.Receipt.{Receipt}
 use Rattle.node_core.specs.Node.{Node}
-use Rattle.node_core.specs.Steps.{Judge, CommitAnswer, Stale, Refused, CommitExhausted, KeeperFailed, Committed, verdict_at, commit_answer, judged, kept_at, csn_for, after_commit, written, with_csn, ended, begin_answer, after_begin}
-use Rattle.node_core.specs.Calls.{Begins, Commits, Answers as IsAnswer}
-use Rattle.repl_data.specs.declared.items.NoMemory.{NoMemory}
+use Rattle.node_core.specs.Steps.{Judge, CommitAnswer, Stale, Refused, CommitExhausted, KeeperFailed, Committed, verdict_at, commit_answer, judged, kept_at, after_commit, written, with_csn, ended}
+use Rattle.node_core.specs.Calls.{Begins, Commits}
 use Rattle.ldap_types.specs.declared.reply.LdapResult.{LdapResult}
 use Rattle.ldap_rules.specs.Case.{result_of}
 use Rattle.conn_core.specs.Serving.{commit_result, used_up}

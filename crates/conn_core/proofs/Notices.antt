@@ -1,9 +1,7 @@
 -- The bytes of the notice of disconnection.
-use Rattle.std.proofs.Common.{◌≡◌, ℕ, List, Option, Some, None, Result, Ok, Err, IfOk, ap, ◌∙◌}
+use Rattle.std.proofs.Common.{◌≡◌, ℕ, List, Some, None, Result, Ok, Err, IfOk, ap, ◌∙◌}
 use Rattle.repl_data.specs.declared.items.NoMemory.{NoMemory}
 use Rattle.ldap_types.specs.declared.reply.LdapResult.{LdapResult}
-use Rattle.ldap_types.specs.declared.reply.Reply.{Reply}
-use Rattle.ldap_types.specs.declared.reply.ReplyOp.{ReplyOp}
 use Rattle.ldap_types.specs.declared.reply.ReplyOp.TheVariants as reply
 use Rattle.ldap_replies.specs.Form.{reply_bytes}
 use Rattle.ldap_rules.specs.Case.{result_of}

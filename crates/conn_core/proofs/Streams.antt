@@ -1,23 +1,18 @@
 -- On streams: what stands at their front, and how they go on.
-use Rattle.std.proofs.Common.{◌≡◌, ℕ, zero, suc, ◌+◌, ◌-◌, ◌<◌, ◌≤◌, Bool, true, false, List, [], ◌∷◌, ◌++◌, length, take, drop, Result, Ok, Err, refl, sym, ap, subst, ◌∙◌, append_assoc, arith, length-append, length-drop}
-use Rattle.std.proofs.lemmas.List.{take-append-drop, length-take-le, take_at, drop-append-le, drop_all, take_all}
-use Rattle.std.proofs.Math.Seq.{drop-append_seam}
+use Rattle.std.proofs.Common.{◌≡◌, ℕ, ◌-◌, ◌<◌, ◌≤◌, false, List, [], ◌∷◌, ◌++◌, length, take, drop, Result, Ok, Err, refl, sym, ap, subst, ◌∙◌, arith, length-drop}
+use Rattle.std.proofs.lemmas.List.{take-append-drop, length-take-le, drop_all, take_all}
 use Rattle.ldap_types.specs.declared.request.Request.{Request}
 use Rattle.ldap_requests.specs.declared.fault.NotLdapWhy.{NotLdapWhy}
-use Rattle.ldap_requests.specs.declared.fault.ReadFault.{ReadFault}
-use Rattle.ldap_requests.specs.declared.fault.ReadFault.TheVariants as read
 use Rattle.ldap_requests.specs.Window.{Stop, More, Fault, open_as, tag_in}
-use Rattle.ldap_requests.specs.Cursor.{Gives}
 use Rattle.ldap_requests.specs.Grammar.{request_at}
 use Rattle.ldap_requests.proofs.Sound.{value, element_some}
 use Rattle.ldap_requests.proofs.SoundMessage.{request_sound}
 use Rattle.ldap_requests.proofs.StableMessage.{request_again, fault_once}
-use Rattle.conn_core.specs.declared.fed.Fed.{Fed}
-use Rattle.conn_core.specs.declared.fed.Fed.TheVariants.{Running, Unbound, BadBytes, Closed}
+use Rattle.io_edge.specs.declared.machine.Fed.{Fed}
 use Rattle.conn_core.specs.declared.first.First.{First}
 use Rattle.conn_core.specs.declared.first.First.TheVariants.{Next, Ends}
 use Rattle.conn_core.specs.First.{IsFirst}
-use Rattle.conn_core.specs.Stream.{first_request, is_unbind, BeginsWith, EndsSo, IsStream}
+use Rattle.conn_core.specs.Stream.{first_request, is_unbind, BeginsWith, EndsSo}
 
 -- ---- one request at the front
 
@@ -61,6 +56,12 @@ begins_next bytes r size rs left is un rest =
 
 pub is_next : (at : ℕ) (bytes : List ℕ) (f : First) (r : Request) (size : ℕ) → f ≡ Next r size → IsFirst (take (length bytes - at) (drop at bytes)) f → IsFirst (drop at bytes) (Next r size)
 is_next at bytes f r size e h =
+    let len = length-drop at bytes in
+    let same : take (length bytes - at) (drop at bytes) ≡ drop at bytes = take_all (length bytes - at) (drop at bytes) (omega (arith, len)) in
+    subst (λ (x : First). IsFirst (drop at bytes) x) e (subst (λ (b : List ℕ). IsFirst b f) same h)
+
+pub is_last : (at : ℕ) (bytes : List ℕ) (f : First) (fed : Fed) → f ≡ Ends fed → IsFirst (take (length bytes - at) (drop at bytes)) f → EndsSo (drop at bytes) fed
+is_last at bytes f fed e h =
     let len = length-drop at bytes in
     let same : take (length bytes - at) (drop at bytes) ≡ drop at bytes = take_all (length bytes - at) (drop at bytes) (omega (arith, len)) in
     subst (λ (x : First). IsFirst (drop at bytes) x) e (subst (λ (b : List ℕ). IsFirst b f) same h)

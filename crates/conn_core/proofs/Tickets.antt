@@ -1,5 +1,5 @@
 -- Which tickets are open behind a write: those from before it.
-use Rattle.std.proofs.Common.{◌≡◌, ◌≢◌, ◌↔◌, ◌⊎◌, inl, inr, refl, sym, subst, ◌∙◌}
+use Rattle.std.proofs.Common.{◌≢◌, inl, inr, subst, ◌∙◌}
 use Rattle.repl_data.specs.declared.csn.Csn.{Csn}
 use Rattle.node_core.specs.Calls.{AreSame, IsAdded, IsTaken, IsMoved}
 

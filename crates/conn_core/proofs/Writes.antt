@@ -1,5 +1,5 @@
 -- The calls of a write: the life of the node stays, and what is answered is said by them.
-use Rattle.std.proofs.Common.{◌≡◌, ℕ, Option, Some, None, Result, Ok, Err, IfOk, refl, sym, ap, ◌∙◌}
+use Rattle.std.proofs.Common.{◌≡◌, ℕ, Some, Result, Ok, Err, sym, ap, ◌∙◌}
 use Rattle.repl_data.specs.declared.csn.Csn.{Csn}
 use Rattle.repl_data.specs.declared.items.NoMemory.{NoMemory}
 use Rattle.ldap_types.specs.declared.request.Request.{Request}
@@ -13,7 +13,7 @@ use Rattle.node_core.specs.Node.{Node}
 use Rattle.node_core.specs.Steps.{judge_view}
 use Rattle.conn_core.specs.Serving.{Reach, IsCall, IsBegun, IsCommitted, IsEnded, IsWritten, not_begun, settled, aborted, begin_result, commit_result, IsTold}
 use Rattle.ldap_rules.specs.Case.{result_of}
-use Rattle.conn_core.proofs.Lives.{begun_life, commits_life, ended_life, back_life, fault_told}
+use Rattle.conn_core.proofs.Lives.{begun_life, commits_life, ended_life, fault_told}
 
 pub begun_keeps : {N : Type 0} (c : Reach N) (now : ℕ) (old new : N) (answer : Result Ticket BeginFault) → IsBegun c now old new answer → (c.node new).life ≡ (c.node old).life
 begun_keeps c now old new answer b = begun_life (c.met old new) (c.node new) now answer b.step ∙ b.call.life

@@ -3,8 +3,8 @@ use Rattle.std.specs.Prelude.{◌≡◌, ◌≤◌, ℕ, Bool, true, false, List
 use Rattle.repl_data.specs.declared.items.NoMemory.{NoMemory}
 use Rattle.ldap_types.specs.declared.request.Request.{Request}
 use Rattle.ldap_types.specs.declared.reply.Identity.TheVariants.{Anonymous}
-use Rattle.conn_core.specs.declared.fed.Fed.{Fed}
-use Rattle.conn_core.specs.declared.fed.Fed.TheVariants.{Running, Unbound, BadBytes, Closed}
+use Rattle.io_edge.specs.declared.machine.Fed.{Fed}
+use Rattle.io_edge.specs.declared.machine.Fed.TheVariants.{Running, BadBytes}
 use Rattle.conn_core.specs.declared.conn.Conn.{Conn}
 use Rattle.conn_core.specs.Stream.{BeginsWith, EndsSo}
 use Rattle.conn_core.specs.Serving.{Reach, Session, AreServed, notice}
@@ -62,6 +62,10 @@ pub record CarriesPart {N : Type 0} (c : Reach N) (now : ℕ) (bytes : List ℕ)
   pub carried : Carries c now bytes old left last
   pub cut : IsCut last new
 
+-- The replies that waited still do, in front of what was added.
+abbrev pub StillWait : List (List ℕ) → List (List ℕ) → Type 0
+StillWait old new = (added : List (List ℕ)) × (new ≡ old ++ added)
+
 -- whole, or, where memory was wanting, so
 abbrev pub Leaves : {N : Type 0} → Result (Unit {0}) NoMemory → Session N → Session N → Type 0
 Leaves (Ok u) whole s = s ≡ whole
@@ -70,5 +74,6 @@ Leaves (Err short) whole s = IsCut whole s
 -- AFTER WANT OF MEMORY the first requests are carried out, and the connection has ended.
 pub record FeedsPart {N : Type 0} (c : Reach N) (now : ℕ) (piece : List ℕ) (old : Conn) (node : N) (new : Conn) (after : N) : Type 0 where
   pub part : CarriesPart c now (old.held ++ piece) (session old node) (session new after)
+  pub waiting : StillWait old.replies new.replies
   pub held : new.held ≡ []
   pub closed : new.is_closed ≡ true

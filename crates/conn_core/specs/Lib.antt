@@ -3,3 +3,5 @@ pub mod Whole
 pub mod First
 pub mod Serving
 pub mod Feeding
+pub mod Waiting
+pub mod Machine

@@ -9,7 +9,6 @@ use Rattle.ldap_types.specs.declared.request.Control.{Control}
 use Rattle.ldap_types.specs.declared.request.BindRequest.{BindRequest}
 use Rattle.ldap_types.specs.declared.request.Op.{Op}
 use Rattle.ldap_types.specs.declared.request.Op.TheVariants as op
-use Rattle.ldap_types.specs.declared.reply.Reply.{Reply}
 use Rattle.ldap_types.specs.declared.reply.ReplyOp.{ReplyOp}
 use Rattle.ldap_types.specs.declared.reply.ReplyOp.TheVariants as reply
 use Rattle.ldap_types.specs.declared.reply.LdapResult.{LdapResult}
@@ -108,16 +107,18 @@ commit_result commit.KeeperFault = Some (result_of 52)
 -- ---- the calls of a node
 
 -- how a node is reached by the values of a type: the node as a call left it, the node that a call met, which node may
--- come from which by steps of others, and how many calls of the keeper failed
+-- come from which by steps of others, what a call leaves alone, and how many calls of the keeper failed
 pub record Reach (N : Type 0) : Type 1 where
   pub node : N → Node
   pub met : N → N → Node
   pub follows : N → Node → Node → Type 0
+  pub keeps : N → N → Type 0
   pub faults : N → ℕ
 
 -- a call leads from the one value to the other
 pub record IsCall {N : Type 0} (c : Reach N) (old new : N) : Type 0 where
   pub meets : c.follows old (c.node old) (c.met old new)
+  pub beside : c.keeps old new
   pub life : (c.met old new).life ≡ (c.node old).life
   pub count : c.faults old ≤ c.faults new
 

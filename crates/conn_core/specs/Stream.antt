@@ -6,8 +6,8 @@ use Rattle.ldap_types.specs.declared.request.Op.TheVariants as op
 use Rattle.ldap_requests.specs.declared.fault.NotLdapWhy.{NotLdapWhy}
 use Rattle.ldap_requests.specs.Window.{Stop, More, Fault}
 use Rattle.ldap_requests.specs.Grammar.{request_at}
-use Rattle.conn_core.specs.declared.fed.Fed.{Fed}
-use Rattle.conn_core.specs.declared.fed.Fed.TheVariants.{Running, Unbound, BadBytes, Closed}
+use Rattle.io_edge.specs.declared.machine.Fed.{Fed}
+use Rattle.io_edge.specs.declared.machine.Fed.TheVariants.{Running, Unbound, BadBytes, Closed}
 
 -- the request at the front of the bytes, of at most 2,097,152 bytes, with its size; or why none is read there
 unfoldable pub first_request : List ℕ → Result (Request × ℕ) Stop

@@ -2,8 +2,8 @@
 use Rattle.std.specs.Prelude.{◌≡◌, ◌≢◌, ℕ, zero, suc, if◌then◌else◌, List, [], ◌∷◌, ◌++◌, length, drop, Result, Ok, Err}
 use Rattle.ldap_types.specs.declared.request.Request.{Request}
 use Rattle.ldap_requests.specs.Window.{Stop, More, Fault}
-use Rattle.conn_core.specs.declared.fed.Fed.{Fed}
-use Rattle.conn_core.specs.declared.fed.Fed.TheVariants.{Running, Unbound, BadBytes}
+use Rattle.io_edge.specs.declared.machine.Fed.{Fed}
+use Rattle.io_edge.specs.declared.machine.Fed.TheVariants.{Running, Unbound, BadBytes}
 use Rattle.conn_core.specs.Stream.{first_request, is_unbind, IsStream}
 
 pub record Stream : Type 0 where

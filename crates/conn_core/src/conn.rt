@@ -1,26 +1,30 @@
-ghost use Rattle.std.specs.Prelude.{◌≡◌, ◌≢◌, ◌≤◌, ◌↔◌, ◌++◌, ◌∷◌, [], true, false, Ok, List, ℕ, length, drop, IfOk, OnOk, OnErr, MatchOption};
+ghost use Rattle.std.specs.Prelude.{◌≡◌, ◌≢◌, ◌≤◌, ◌↔◌, ◌++◌, ◌∷◌, [], true, false, Ok, List, ℕ, length, drop, IfOk, IsOk, OnOk, OnErr, MatchOption};
+ghost use Rattle.std.specs.List.{list_all};
 ghost use Rattle.ldap_types.specs.declared.request.Request.{Request};
 ghost use Rattle.ldap_replies.specs.Form.{reply_bytes};
+ghost use Rattle.io_edge.specs.declared.machine.Fed.{Fed};
 ghost use Rattle.node_core.specs.Calls.{AreSame};
-ghost use Rattle.conn_core.specs.Stream.{EndsSo};
-ghost use Rattle.conn_core.specs.Serving.{Reach, Serves, Binds, Session, IsServed, IsTold};
-ghost use Rattle.conn_core.specs.Feeding.{new_conn, session, Carries, Feeds, FeedsPart, CarriesPart, Leaves, held_of, is_end, notice_of};
+ghost use Rattle.conn_core.specs.Stream.{EndsSo, IsStream};
+ghost use Rattle.conn_core.specs.Serving.{Reach, is_built, Serves, Binds, Session, IsServed, IsTold};
+ghost use Rattle.conn_core.specs.Feeding.{new_conn, session, Carries, Feeds, FeedsPart, CarriesPart, StillWait, Leaves, held_of, is_end, notice_of};
 
-use crate::fed::Fed;
-use crate::first::{First, read_first};
+use crate::built::are_built;
+use crate::first::{First, read_first, waits};
 use crate::queue::ReplyQueue;
 use crate::reply::{bytes_of, count_starved, notice, plain_code, reply_to, result_of};
 use crate::write::add;
+use io_edge::Fed;
 use ldap_rules::judge_bind;
 use ldap_types::{BindRequest, Bytes, Code, Identity, LdapResult, NoMemory, Op, Reply, Request};
 use node_core::NodeCalls;
+use request_wait::Unfinished;
 use std::alloc::Global;
 use std::mem;
 
 /// One connection of a client.
 #[derive(Debug, Drop)]
 pub struct Conn {
-    held: Bytes,
+    held: Unfinished,
     replies: ReplyQueue,
     bound: Identity,
     starved: u64,
@@ -33,7 +37,7 @@ impl Conn {
         ensures { IfOk result (λ conn. conn ≡ new_conn) }
     {
         Ok(Conn {
-            held: Bytes::new(alloc),
+            held: Unfinished::new(alloc),
             replies: ReplyQueue::new(alloc),
             bound: Identity::Anonymous,
             starved: 0,
@@ -78,6 +82,31 @@ impl Conn {
         self.replies.pop()
     }
 
+    /// Takes the next bytes in, and carries nothing out yet: the next feed does, also one of no bytes. A
+    /// connection that has ended takes none.
+    pub fn hold(&mut self, bytes: &[u8]) -> Result<(), NoMemory>
+        ensures ok { self.old.is_closed ≡ false → OnOk result (self.new ≡ record self.old { held = self.old.held ++ bytes.now }) }
+        ensures closed { self.old.is_closed ≡ true → IsOk result × (self.new ≡ self.old) }
+        ensures err { OnErr result (self.new ≡ self.old) }
+    {
+        if self.is_closed {
+            return Ok(());
+        }
+        self.held.extend_from_slice(bytes)
+    }
+
+    /// Each request that the held bytes make whole is built: a feed answers it by its rules. The rest is
+    /// answered `unwillingToPerform` (RFC 4511, appendix A).
+    pub fn are_built(&mut self, alloc: Global) -> Result<bool, NoMemory>
+        ensures built { IfOk result (λ built. (requests : List Request) (left : List ℕ) (fed : Fed) → IsStream self.old.held requests left fed → built ≡ list_all is_built requests) }
+        ensures same { self.new ≡ self.old }
+    {
+        if waits(&mut self.held) {
+            return Ok(true);
+        }
+        are_built(alloc, self.held.as_slice())
+    }
+
     /// Binds, and gives the result. Where memory is wanting, nobody is bound.
     fn bind(&mut self, alloc: Global, request: &BindRequest) -> LdapResult
         ensures bound { Binds request.now self.new.bound result }
@@ -103,7 +132,7 @@ impl Conn {
         now: u32,
         request: &Request,
     ) -> Result<LdapResult, NoMemory>
-        ensures served { (told : LdapResult) × Serves (record { node = N.node; met = N.met; follows = N.follows; faults = N.faults }) now self.old.bound request.now node.old node.new self.new.bound told request.now.op × IsTold told result }
+        ensures served { (told : LdapResult) × Serves (record { node = N.node; met = N.met; follows = N.follows; keeps = N.keeps; faults = N.faults }) now self.old.bound request.now node.old node.new self.new.bound told request.now.op × IsTold told result }
         ensures others { self.new ≡ record self.old { bound = self.new.bound } }
         ensures open { AreSame (N.is_open node.old) (N.is_open node.new) }
         ensures committed { AreSame (N.is_committed node.old) (N.is_committed node.new) }
@@ -133,7 +162,8 @@ impl Conn {
         now: u32,
         request: &Request,
     ) -> Result<(), NoMemory>
-        ensures served { (last : Session N) × IsServed (record { node = N.node; met = N.met; follows = N.follows; faults = N.faults }) now request.now (session self.old node.old) last × Leaves result last (session self.new node.new) }
+        ensures served { (last : Session N) × IsServed (record { node = N.node; met = N.met; follows = N.follows; keeps = N.keeps; faults = N.faults }) now request.now (session self.old node.old) last × Leaves result last (session self.new node.new) }
+        ensures waiting { StillWait self.old.replies self.new.replies }
         ensures held { self.new.held ≡ self.old.held }
         ensures closed { self.new.is_closed ≡ self.old.is_closed }
         ensures open { AreSame (N.is_open node.old) (N.is_open node.new) }
@@ -162,9 +192,10 @@ impl Conn {
         now: u32,
         stream: &[u8],
     ) -> Result<(Fed, usize), NoMemory>
-        ensures served { IfOk result (λ p. Carries (record { node = N.node; met = N.met; follows = N.follows; faults = N.faults }) now stream.now (session self.old node.old) (drop p.1 stream.now) (session self.new node.new) × EndsSo (drop p.1 stream.now) p.0) }
+        ensures served { IfOk result (λ p. Carries (record { node = N.node; met = N.met; follows = N.follows; keeps = N.keeps; faults = N.faults }) now stream.now (session self.old node.old) (drop p.1 stream.now) (session self.new node.new) × EndsSo (drop p.1 stream.now) p.0) }
         ensures within { IfOk result (λ p. p.1 ≤ length stream.now) }
-        ensures cut { OnErr result (CarriesPart (record { node = N.node; met = N.met; follows = N.follows; faults = N.faults }) now stream.now (session self.old node.old) (session self.new node.new)) }
+        ensures cut { OnErr result (CarriesPart (record { node = N.node; met = N.met; follows = N.follows; keeps = N.keeps; faults = N.faults }) now stream.now (session self.old node.old) (session self.new node.new)) }
+        ensures waiting { StillWait self.old.replies self.new.replies }
         ensures held { self.new.held ≡ self.old.held }
         ensures closed { self.new.is_closed ≡ self.old.is_closed }
         ensures open { AreSame (N.is_open node.old) (N.is_open node.new) }
@@ -190,7 +221,13 @@ impl Conn {
     }
 
     /// Keeps the bytes of an unfinished message, or ends the connection.
-    fn finish(&mut self, alloc: Global, fed: Fed, stream: Bytes, at: usize) -> Result<(), NoMemory>
+    fn finish(
+        &mut self,
+        alloc: Global,
+        fed: Fed,
+        stream: Unfinished,
+        at: usize,
+    ) -> Result<(), NoMemory>
         requires within { at ≤ length stream }
         requires empty { self.old.held ≡ [] }
         requires answer { fed ≢ Fed.Closed }
@@ -223,16 +260,22 @@ impl Conn {
         now: u32,
         piece: &[u8],
     ) -> Result<Fed, NoMemory>
-        ensures fed { IfOk result (λ fed. Feeds (record { node = N.node; met = N.met; follows = N.follows; faults = N.faults }) now piece.now self.old node.old fed self.new node.new) }
-        ensures part { OnErr result (CarriesPart (record { node = N.node; met = N.met; follows = N.follows; faults = N.faults }) now (self.old.held ++ piece.now) (session self.old node.old) (session self.new node.new)) }
+        requires { self.old.is_closed ≡ false }
+        ensures fed { IfOk result (λ fed. Feeds (record { node = N.node; met = N.met; follows = N.follows; keeps = N.keeps; faults = N.faults }) now piece.now self.old node.old fed self.new node.new) }
+        ensures part { OnErr result (CarriesPart (record { node = N.node; met = N.met; follows = N.follows; keeps = N.keeps; faults = N.faults }) now (self.old.held ++ piece.now) (session self.old node.old) (session self.new node.new)) }
+        ensures waiting { OnErr result (StillWait self.old.replies self.new.replies) }
         ensures empty { OnErr result (self.new.held ≡ []) }
         ensures open { AreSame (N.is_open node.old) (N.is_open node.new) }
         ensures committed { AreSame (N.is_committed node.old) (N.is_committed node.new) }
         ensures life { (N.node node.new).life ≡ (N.node node.old).life }
     {
-        let mut stream = mem::replace(&mut self.held, Bytes::new(alloc));
+        let mut stream = mem::replace(&mut self.held, Unfinished::new(alloc));
         if let Err(NoMemory) = stream.extend_from_slice(piece) {
             return Err(NoMemory);
+        }
+        if waits(&mut stream) {
+            self.held = stream;
+            return Ok(Fed::Running);
         }
         let Ok((fed, at)) = self.serve(alloc, node, now, stream.as_slice()) else {
             return Err(NoMemory);
@@ -245,6 +288,10 @@ impl Conn {
 
     /// Takes the next bytes of the client, at the time `now` in seconds since 1970: carries out the
     /// requests that the bytes so far make whole, in their order, up to the first unbind.
+    ///
+    /// An unfinished message is not read again: over all feeds each element of it is looked at once when
+    /// all of it is there, and each feed looks at one that is not, in constant time. A whole message is
+    /// read once.
     pub fn feed<N: NodeCalls>(
         &mut self,
         alloc: Global,
@@ -254,11 +301,12 @@ impl Conn {
     ) -> Result<Fed, NoMemory>
         ensures closed { (result ≡ Ok Fed.Closed) ↔ (self.old.is_closed ≡ true) }
         ensures unchanged { self.old.is_closed ≡ true → (self.new ≡ self.old) × (node.new ≡ node.old) }
-        ensures fed { self.old.is_closed ≡ false → IfOk result (λ fed. Feeds (record { node = N.node; met = N.met; follows = N.follows; faults = N.faults }) now bytes.now self.old node.old fed self.new node.new) }
-        ensures part { OnErr result (FeedsPart (record { node = N.node; met = N.met; follows = N.follows; faults = N.faults }) now bytes.now self.old node.old self.new node.new) }
+        ensures fed { self.old.is_closed ≡ false → IfOk result (λ fed. Feeds (record { node = N.node; met = N.met; follows = N.follows; keeps = N.keeps; faults = N.faults }) now bytes.now self.old node.old fed self.new node.new) }
+        ensures part { OnErr result (FeedsPart (record { node = N.node; met = N.met; follows = N.follows; keeps = N.keeps; faults = N.faults }) now bytes.now self.old node.old self.new node.new) }
         ensures open { AreSame (N.is_open node.old) (N.is_open node.new) }
         ensures committed { AreSame (N.is_committed node.old) (N.is_committed node.new) }
         ensures life { (N.node node.new).life ≡ (N.node node.old).life }
+        ensures faults { N.faults node.old ≤ N.faults node.new }
     {
         if self.is_closed {
             return Ok(Fed::Closed);
@@ -284,12 +332,13 @@ impl Conn {
 }
 
 /// The bytes from this place on.
-fn behind(alloc: Global, stream: Bytes, at: usize) -> Result<Bytes, NoMemory>
+fn behind(alloc: Global, stream: Unfinished, at: usize) -> Result<Unfinished, NoMemory>
     requires { at ≤ length stream }
     ensures { IfOk result (λ rest. rest ≡ drop at stream) }
 {
     if at == 0 {
         return Ok(stream);
     }
-    Bytes::from_slice(alloc, &stream.as_slice()[at..])
+    let rest = Bytes::from_slice(alloc, &stream.as_slice()[at..])?;
+    Ok(Unfinished::from(rest))
 }

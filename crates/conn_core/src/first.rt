@@ -1,10 +1,12 @@
-ghost use Rattle.std.specs.Prelude.{◌≡◌, IfOk};
+ghost use Rattle.std.specs.Prelude.{◌≡◌, IfOk, IsTrue};
 ghost use Rattle.conn_core.specs.First.{IsFirst};
+ghost use Rattle.conn_core.specs.Stream.{EndsSo};
 
-use crate::fed::Fed;
 use crate::reply::is_unbind;
+use io_edge::Fed;
 use ldap_requests::{ReadFault, read_request};
 use ldap_types::{NoMemory, Request};
+use request_wait::Unfinished;
 use std::alloc::Global;
 
 /// What stands at the front of a stream.
@@ -30,4 +32,12 @@ pub(crate) fn read_first(alloc: Global, bytes: &[u8]) -> Result<First, NoMemory>
         Err(ReadFault::NotLdap { place, why: _why }) => Ok(First::Ends(Fed::BadBytes { place })),
         Err(ReadFault::NoMemory) => Err(NoMemory),
     }
+}
+
+/// What stands at the front is no whole request yet, and no fault. False: it has to be read.
+pub(crate) fn waits(stream: &mut Unfinished) -> bool
+    ensures more { IsTrue result → EndsSo stream.old Fed.Running }
+    ensures same { stream.new ≡ stream.old }
+{
+    stream.waits()
 }

@@ -2,18 +2,21 @@
 //! other, by the calls of a node, and answered (RFC 4511, sections 4 and 5.2).
 #![tactic(auto)]
 
+mod built;
 mod conn;
-mod fed;
 mod first;
 mod laws;
+mod machine;
 mod queue;
 mod reply;
+mod rest;
 #[cfg(test)]
 mod tests;
 mod write;
 
 pub use conn::Conn;
-pub use fed::Fed;
+pub use io_edge::Fed;
 pub use laws::stream_laws;
 pub use ldap_types::{Bytes, Identity, NoMemory};
+pub use machine::NodeMachine;
 pub use queue::ReplyQueue;

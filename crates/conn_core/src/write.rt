@@ -19,7 +19,7 @@ pub(crate) fn write<N: NodeCalls>(
     request: &Request,
 ) -> Result<LdapResult, NoMemory>
     requires { IsWrite request.now bound }
-    ensures written { (told : LdapResult) × IsWritten (record { node = N.node; met = N.met; follows = N.follows; faults = N.faults }) now bound request.now node.old node.new told × IsTold told result }
+    ensures written { (told : LdapResult) × IsWritten (record { node = N.node; met = N.met; follows = N.follows; keeps = N.keeps; faults = N.faults }) now bound request.now node.old node.new told × IsTold told result }
     ensures open { AreSame (N.is_open node.old) (N.is_open node.new) }
     ensures committed { AreSame (N.is_committed node.old) (N.is_committed node.new) }
     ensures life { (N.node node.new).life ≡ (N.node node.old).life }
@@ -49,7 +49,7 @@ pub(crate) fn add<N: NodeCalls>(
     request: &Request,
 ) -> Result<LdapResult, NoMemory>
     requires { is_built request.now.op ≡ true }
-    ensures added { (told : LdapResult) × (((has_update request.now.controls ≡ false) × IsWritten (record { node = N.node; met = N.met; follows = N.follows; faults = N.faults }) now bound request.now node.old node.new told)
+    ensures added { (told : LdapResult) × (((has_update request.now.controls ≡ false) × IsWritten (record { node = N.node; met = N.met; follows = N.follows; keeps = N.keeps; faults = N.faults }) now bound request.now node.old node.new told)
         ⊎ ((has_update request.now.controls ≡ true) × (node.new ≡ node.old) × (told ≡ result_of 53))) × IsTold told result }
     ensures open { AreSame (N.is_open node.old) (N.is_open node.new) }
     ensures committed { AreSame (N.is_committed node.old) (N.is_committed node.new) }

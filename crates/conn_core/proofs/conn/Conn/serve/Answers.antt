@@ -1,7 +1,7 @@
-use Rattle.std.proofs.Common.{◌≡◌, ◌∙◌, refl, drop, arith, length-drop}
+use Rattle.std.proofs.Common.{◌∙◌, refl, drop, arith, length-drop}
 use Rattle.conn_core.specs.Feeding.{session}
 use Rattle.conn_core.proofs.Streams.{is_next, none_behind}
-use Rattle.conn_core.proofs.Carrying.{carries_none, carried_on, further, cut_none}
+use Rattle.conn_core.proofs.Carrying.{carries_none, carried_on, further, cut_none, still_more}
 use Rattle.conn_core.proofs.Tickets.{same_twice}
 use Rattle.conn_core.proofs.conn.Conn.serve.Goals as goal
 
@@ -34,6 +34,7 @@ loop-at-preserved g c =
     let below = c.loop-at.invariant.within in
     record {
       within = omega (arith, fits, below, length-drop c.loop-at.at c.args.stream.now);
+      waiting = still_more c.args.self.now.replies c.loop-at.self.replies c.carry_out.new.self.replies c.loop-at.invariant.waiting c.in_default-carry_out.ensures.waiting;
       held = c.in_default-carry_out.ensures.held ∙ c.loop-at.invariant.held;
       closed = c.in_default-carry_out.ensures.closed ∙ c.loop-at.invariant.closed;
       open_tickets = same_twice (g.N.NodeCalls.is_open c.args.node.now) (g.N.NodeCalls.is_open c.loop-at.node) (g.N.NodeCalls.is_open c.carry_out.new.node) c.loop-at.invariant.open_tickets c.in_default-carry_out.ensures.open;
@@ -49,3 +50,6 @@ returns-clause-served g c = (
   c.loop-at.invariant.carried (drop c.loop-at.at c.args.stream.now) (session c.loop-at.self c.loop-at.node) (carries_none _ c.args.now (drop c.loop-at.at c.args.stream.now) (session c.loop-at.self c.loop-at.node)),
   none_behind c.loop-at.at c.args.stream.now c.loop-at-test.false,
 )
+
+pub returns-in-Err-clause-waiting : goal.returns-in-Err-clause-waiting
+returns-in-Err-clause-waiting g c = still_more c.args.self.now.replies c.loop-at.self.replies c.carry_out.new.self.replies c.loop-at.invariant.waiting c.in-Err.ensures.waiting

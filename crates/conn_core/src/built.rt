@@ -1,0 +1,44 @@
+ghost use Rattle.std.specs.Prelude.{◌≡◌, List, ℕ, IfOk};
+ghost use Rattle.std.specs.List.{list_all};
+ghost use Rattle.ldap_types.specs.declared.request.Request.{Request};
+ghost use Rattle.io_edge.specs.declared.machine.Fed.{Fed};
+ghost use Rattle.conn_core.specs.Stream.{IsStream};
+ghost use Rattle.conn_core.specs.Serving.{is_built};
+
+use crate::first::{First, read_first};
+use crate::reply::{has_update, is_session};
+use ldap_types::{NoMemory, Op, Request};
+use std::alloc::Global;
+
+fn is_built(request: &Request) -> bool
+    ensures { result ≡ is_built request.now }
+{
+    match &request.op {
+        Op::Bind(_) | Op::Unbind | Op::Abandon { .. } => true,
+        Op::Extended { oid, .. } => !is_session(oid.as_slice()),
+        Op::Add { .. } => !has_update(request.controls.as_slice()),
+        _ => false,
+    }
+}
+
+/// Each whole request of the stream is built.
+pub(crate) fn are_built(alloc: Global, stream: &[u8]) -> Result<bool, NoMemory>
+    ensures { IfOk result (λ built. (requests : List Request) (left : List ℕ) (fed : Fed) → IsStream stream.now requests left fed → built ≡ list_all is_built requests) }
+{
+    let mut at = 0;
+    while at < stream.len() {
+        let Ok(first) = read_first(alloc, &stream[at..]) else {
+            return Err(NoMemory);
+        };
+        match first {
+            First::Ends(_) => return Ok(true),
+            First::Next(request, size) => {
+                if !is_built(&request) {
+                    return Ok(false);
+                }
+                at += size;
+            }
+        }
+    }
+    Ok(true)
+}
