@@ -1,5 +1,5 @@
 -- Each line that is carried out leads from world to world.
-use Rattle.std.proofs.Common.{◌≡◌, ℕ, ◌+◌, ◌≤◌, Bool, true, false, not, ◌&&◌, List, [], ◌∷◌, Option, Some, None, option_map, refl, sym, subst, ◌∙◌, arith, inl, inr, nat_lt, leb-true, length}
+use Rattle.std.proofs.Common.{◌≡◌, ℕ, ◌+◌, ◌≤◌, Bool, true, false, not, ◌&&◌, ◌||◌, List, [], ◌∷◌, Option, Some, None, option_map, refl, sym, subst, ◌∙◌, arith, inl, inr, nat_lt, leb-true, length}
 use Rattle.std.specs.Prelude.{IfSome, IsSome, is_some, is_none}
 use Rattle.vector_core.proofs.Lists.{if_true, if_false}
 use Rattle.std.specs.List.{list_any}
@@ -11,9 +11,10 @@ use Rattle.ldap_types.specs.declared.reply.Identity.{Identity}
 use Rattle.ldap_rules.specs.Verdict.{is_built as is_built_op, is_update_control, is_supplier}
 use Rattle.node_core.specs.Steps.{judge_view}
 use Rattle.world_core.specs.declared.parts.Session.{Session}
-use Rattle.world_core.specs.World.{Ticket, new_world, is_node, ticket_in, session_in}
+use Rattle.world_core.specs.World.{World, Ticket, new_world, is_node, ticket_in, session_in}
 use Rattle.world_core.specs.declared.event.Event.TheVariants as event
-use Rattle.world_core.specs.Laws.{IsLawful, IsWrite, Leads}
+use Rattle.node_core.specs.Calls.{IsWrite}
+use Rattle.world_core.specs.Laws.{IsNode, IsLawful, Leads}
 use Rattle.world_core.proofs.Events.{is_node-means}
 use Rattle.world_core.proofs.Runs.{lawful_all, new_lawful}
 use Rattle.world_core.proofs.Writing.{write-leads}
@@ -27,8 +28,13 @@ use Rattle.dir_top.specs.declared.state.Connection.{Connection}
 use Rattle.dir_top.specs.declared.state.Connection.TheVariants.{Closed, Open}
 use Rattle.dir_top.specs.declared.state.State.{State}
 use Rattle.dir_top.specs.State.{script_suffix, new_state, connection_in}
+use Rattle.conn_core.specs.Whole.{stream_of}
+use Rattle.conn_core.specs.Serving.{has_update}
 use Rattle.dir_top.specs.Message.{request_of, is_write, is_built_write}
-use Rattle.dir_top.specs.Script.{is_built, is_write_to_come, is_one_write, TheNode, TheConnection, TheTicket, NewTicket, why_if, why_first, why_name, why_state, why_last, first_why, why_of, write_by, answer_op, answer_to, start_by, start_of, carried, goes_on, unless_refused, line_step, step_of, script_line, line_limit, length_limit}
+use Rattle.dir_top.specs.Client.{with_bytes}
+use Rattle.dir_top.specs.Serving.{Served, after_plain, serve_op, serve, serve_all, fed}
+use Rattle.dir_top.proofs.WritesAt.{write-node}
+use Rattle.dir_top.specs.Script.{is_built, is_write_to_come, is_one_write, TheNode, TheConnection, TheTicket, NewTicket, why_if, why_first, why_name, why_state, why_last, first_why, why_of, start_by, start_of, carried, goes_on, unless_refused, line_step, step_of, script_line, line_limit, length_limit}
 use Rattle.dir_top.proofs.Leading.{leads-refl, leads-then, leads-event}
 
 -- ---- reasons that do not stand
@@ -61,6 +67,10 @@ not-true' : (b : Bool) → not b ≡ true → b ≡ false
 not-true' true e = absurd (true≢false (sym e))
 not-true' false e = refl
 
+neither : (a b : Bool) → (a || b) ≡ false → a ≡ false
+neither true b e = absurd (true≢false e)
+neither false b e = refl
+
 -- ---- tickets
 
 no_ticket : (o : Option Ticket) → is_some o ≡ false → o ≡ None
@@ -87,7 +97,7 @@ has_session (Some s) e = refl
 built_write : (request : Request) (bound : Identity) → is_built_write request ≡ true → IsWrite request bound
 built_write request bound e =
     let parts = and_parts (is_built_op request.op) (not (list_any is_update_control request.controls)) e in
-    record { built = parts.0; plain = no_update (is_supplier bound) (list_any is_update_control request.controls) (not-true' _ parts.1) }
+    record { built = parts.0; no_update = no_update (is_supplier bound) (list_any is_update_control request.controls) (not-true' _ parts.1) }
   where
     no_update : (a b : Bool) → b ≡ false → (a && b) ≡ false
     no_update true b e = e
@@ -98,6 +108,50 @@ both_writes true true e f = refl
 both_writes true false e f = absurd (true≢false (sym f))
 both_writes false b e f = absurd (true≢false (sym e))
 
+-- ---- requests on a connection
+
+pub record Goes (n : ℕ) (old new : Served) : Type 0 where
+  pub leads : Leads judge_view old.world new.world
+  pub there : IsNode new.world.nodes n
+
+stays : (n : ℕ) (old new : Served) → new.world ≡ old.world → IsNode old.world.nodes n → Goes n old new
+stays n old new e i = record {
+  leads = subst (λ w. Leads judge_view old.world w) (sym e) (leads-refl judge_view old.world);
+  there = subst (λ (w : World). IsNode w.nodes n) (sym e) i;
+}
+
+module _ (n : ℕ) (s : Served) (r : Request) (lawful : IsLawful s.world) (i : IsNode s.world.nodes n) where
+  serve-goes : (o : Op) → Goes n s (serve_op n s r o)
+  serve-goes (op.Bind bind) = stays n s _ refl i
+  serve-goes (op.Add object attrs) =
+      elim (cases_Bool (has_update r.controls)) [
+        | inl t ↦ subst (λ x. Goes n s x) (sym (if_true _ _ t)) (stays n s (after_plain s r 53) refl i)
+        | inr f ↦
+            subst (λ x. Goes n s x) (sym (if_false _ _ f))
+            (record {
+              leads = write-leads judge_view s.world n r s.bound lawful i;
+              there = write-node s.world n r s.bound i;
+            })
+      ]
+  serve-goes op.Unbind = stays n s _ refl i
+  serve-goes (op.Search search) = stays n s _ refl i
+  serve-goes (op.Modify object mods) = stays n s _ refl i
+  serve-goes (op.Delete object) = stays n s _ refl i
+  serve-goes (op.Rename object new_rdn delete_old new_superior) = stays n s _ refl i
+  serve-goes (op.Compare object name value) = stays n s _ refl i
+  serve-goes (op.Abandon id) = stays n s _ refl i
+  serve-goes (op.Extended oid value) = stays n s _ refl i
+
+lawful-then : (a b : World) → Leads judge_view a b → IsLawful a → IsLawful b
+lawful-then a b l k = subst (λ w. IsLawful w) l.ends (lawful_all judge_view a l.deeds l.run k)
+
+serves-lead : (n : ℕ) (s : Served) (rs : List Request) → IsLawful s.world → IsNode s.world.nodes n → Leads judge_view s.world (serve_all n s rs).world
+serves-lead n s [] lawful i = leads-refl judge_view s.world
+serves-lead n s (r ∷ rs) lawful i =
+    let g = serve-goes n s r lawful i r.op in
+    leads-then judge_view s.world (serve n s r).world (serve_all n (serve n s r) rs).world g.leads
+    (serves-lead n (serve n s r) rs (lawful-then s.world (serve n s r).world g.leads lawful) g.there)
+
 -- ---- the lines, one after the other
 
 abbrev Carries : State → State → Type 0
@@ -107,35 +161,21 @@ module _ (s : State) (lawful : IsLawful s.world) where
   same : Carries s s
   same = leads-refl judge_view s.world
 
-  writes : (c : ℕ) (request : Request) (connection : Connection) → Carries s (write_by s c request connection).0
-  writes c request Closed = same
-  writes c request (Open node instance identity) =
+  -- bytes: request by request
+  inputs : (c : ℕ) (bytes : List ℕ) (connection : Connection) → Carries s (fed s c bytes connection).0
+  inputs c bytes Closed = same
+  inputs c bytes (Open node instance client) =
       elim (cases_Bool (is_node s.world node)) [
         | inl t ↦
-            subst (λ (r : State × List ℕ). Carries s r.0) (sym (if_true _ _ t))
-            (write-leads judge_view s.world node request identity lawful (is_node-means s.world node t))
+            (let requests = (stream_of (with_bytes client bytes).held).requests in
+            let start : Served = record { world = s.world; bound = client.bound; replies = [] } in
+            subst (λ (r : State × List ℕ). Carries s r.0) (sym (if_true _ _ t)) (serves-lead node start requests lawful (is_node-means s.world node t)))
         | inr f ↦ subst (λ (r : State × List ℕ). Carries s r.0) (sym (if_false _ _ f)) same
       ]
 
-  answers : (c : ℕ) (request : Request) (op : Op) → Carries s (answer_op s c request op).0
-  answers c request (op.Bind bind) = same
-  answers c request op.Unbind = writes c request (connection_in s c)
-  answers c request (op.Search search) = writes c request (connection_in s c)
-  answers c request (op.Modify object mods) = writes c request (connection_in s c)
-  answers c request (op.Add object attrs) = writes c request (connection_in s c)
-  answers c request (op.Delete object) = writes c request (connection_in s c)
-  answers c request (op.Rename object new_rdn delete_old new_superior) = writes c request (connection_in s c)
-  answers c request (op.Compare object name value) = writes c request (connection_in s c)
-  answers c request (op.Abandon id) = writes c request (connection_in s c)
-  answers c request (op.Extended oid value) = writes c request (connection_in s c)
-
-  inputs : (c : ℕ) (o : Option Request) → Carries s (answer_to s c o).0
-  inputs c None = same
-  inputs c (Some request) = answers c request request.op
-
   begins : (k c : ℕ) (request : Request) (connection : Connection) → ticket_in s.world k ≡ None → is_built_write request ≡ true → Carries s (start_by s k c request connection).0
   begins k c request Closed free built = same
-  begins k c request (Open node instance identity) free built = leads-event judge_view s.world (event.Start k node request identity) (free, built_write request identity built)
+  begins k c request (Open node instance client) free built = leads-event judge_view s.world (event.Start k node request client.bound) (free, built_write request client.bound built)
 
   starts : (k c : ℕ) (o : Option Request) → ticket_in s.world k ≡ None → is_one_write o ≡ true → not (is_write_to_come o) ≡ true → Carries s (start_of s k c o).0
   starts k c None free one built = same
@@ -146,12 +186,12 @@ module _ (s : State) (lawful : IsLawful s.world) where
   carries (line.Nodes n) b w = same
   carries (line.Clock time) b w = leads-event judge_view s.world (event.Clock time) tt
   carries (line.Connect c n) b w = same
-  carries (line.Input c bytes) b w = inputs c (request_of bytes)
+  carries (line.Input c bytes) b w = inputs c bytes (connection_in s c)
   carries (line.StartWrite k c bytes) b w =
       let l = line.StartWrite k c bytes in
       let reasons = four_none (why_first (Some s) l) (why_name s (NewTicket k)) (why_name s (TheConnection c)) (why_last s l) w in
       let free = why_if-none (is_some (ticket_in s.world k)) (why.TicketTaken k) reasons.0 in
-      let one = why_if-none (not (is_one_write (request_of bytes))) why.Request reasons.2 in
+      let one = neither (not (is_one_write (request_of bytes))) _ (why_if-none _ why.Request reasons.2) in
       starts k c (request_of bytes) (no_ticket (ticket_in s.world k) free) (not-false (is_one_write (request_of bytes)) one) b
   carries (line.Commit k) b w =
       let reasons = three_none (why_first (Some s) (line.Commit k)) (why_name s (TheTicket k)) (why_last s (line.Commit k)) w in

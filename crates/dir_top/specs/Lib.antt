@@ -1,3 +1,4 @@
+pub mod Client
 pub mod Converges
 pub mod Line
 pub mod Message
@@ -6,7 +7,9 @@ pub mod Print
 pub mod Report
 pub mod Running
 pub mod Script
+pub mod Serving
 pub mod State
 pub mod Status
 pub mod Step
+pub mod Turn
 pub mod Words

@@ -1,9 +1,9 @@
--- The requests that a line may bring: one whole message each.
+-- The write that a `start` brings: one whole message.
 use Rattle.std.specs.Prelude.{ℕ, Bool, true, false, not, ◌&&◌, ◌==◌, length, List, Option, Some, None, Result, Ok, Err, if◌then◌else◌}
 use Rattle.std.specs.List.{list_any}
 use Rattle.ldap_types.specs.declared.request.Request.{Request}
 use Rattle.ldap_types.specs.declared.request.Op.{Op}
-use Rattle.ldap_types.specs.declared.request.Op.TheVariants.{Bind, Add, Modify, Delete, Rename}
+use Rattle.ldap_types.specs.declared.request.Op.TheVariants.{Add, Modify, Delete, Rename}
 use Rattle.ldap_requests.specs.Window.{Stop}
 use Rattle.ldap_requests.specs.Grammar.{request_at}
 use Rattle.ldap_rules.specs.Verdict.{is_built, is_update_control}
@@ -24,10 +24,6 @@ is_write_op (Delete object) = true
 is_write_op (Rename object new_rdn delete_old new_superior) = true
 is_write_op _ = false
 
-abbrev pub is_bind_op : Op → Bool
-is_bind_op (Bind request) = true
-is_bind_op _ = false
-
 -- a write of a client, and no update of another server
 abbrev pub is_write : Request → Bool
 is_write request = is_write_op request.op && not (list_any is_update_control request.controls)
@@ -35,7 +31,3 @@ is_write request = is_write_op request.op && not (list_any is_update_control req
 -- the writes that are built so far
 abbrev pub is_built_write : Request → Bool
 is_built_write request = is_built request.op && not (list_any is_update_control request.controls)
-
--- and the requests
-abbrev pub is_built_request : Request → Bool
-is_built_request request = if is_bind_op request.op then true else is_built_write request

@@ -26,16 +26,23 @@ use Rattle.dir_top.specs.State.{still_waits}
 
 -- ---- replies
 
--- `out C HEX`
-abbrev pub out_line : ℕ → Reply → List ℕ
-out_line c r = words_line (codes "out" ∷ decimal c ∷ encode_lower (reply_bytes r) ∷ [])
+-- `out C HEX`, by the bytes of the reply
+abbrev pub reply_line : ℕ → List ℕ → List ℕ
+reply_line c bytes = words_line (codes "out" ∷ decimal c ∷ encode_lower bytes ∷ [])
 
--- the reply to an add, and to a bind, with this message id
+abbrev pub reply_lines : ℕ → List (List ℕ) → List ℕ
+reply_lines c replies = flat_map (reply_line c) replies
+
+abbrev pub out_line : ℕ → Reply → List ℕ
+out_line c r = reply_line c (reply_bytes r)
+
+-- `closed C`
+abbrev pub closed_line : ℕ → List ℕ
+closed_line c = words_line (codes "closed" ∷ decimal c ∷ [])
+
+-- the reply to an add, with this message id
 abbrev pub add_reply : ℕ → LdapResult → Reply
 add_reply id result = record { id = id; op = reply.Add result }
-
-abbrev pub bind_reply : ℕ → LdapResult → Reply
-bind_reply id result = record { id = id; op = reply.Bind result }
 
 -- the reply to the write of a ticket, if its connection is still the same one
 abbrev pub reply_owed : State → Option Owed → LdapResult → List ℕ

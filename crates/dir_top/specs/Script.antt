@@ -1,14 +1,8 @@
 -- What a script means: its lines, one after the other, on a world and the connections to it.
 use Rattle.std.specs.Prelude.{ℕ, Bool, true, false, not, ◌&&◌, ◌||◌, List, [], ◌∷◌, ◌++◌, map, length, nat_lt, nat_le, if◌then◌else◌, Option, Some, None, is_some, is_none, option_map}
-use Rattle.ldap_types.specs.declared.reply.Identity.{Identity}
-use Rattle.ldap_types.specs.declared.reply.LdapResult.{LdapResult}
 use Rattle.ldap_types.specs.declared.request.Request.{Request}
-use Rattle.ldap_types.specs.declared.request.Op.{Op}
-use Rattle.ldap_types.specs.declared.request.Op.TheVariants.{Bind}
-use Rattle.ldap_rules.specs.Bind.{bind_verdict}
 use Rattle.node_core.specs.Steps.{judge_view}
-use Rattle.world_core.specs.World.{World, Ticket, step, is_node, ticket_in, session_in, update_in}
-use Rattle.world_core.specs.Write.{write_in}
+use Rattle.world_core.specs.World.{Ticket, step, is_node, ticket_in, session_in, update_in}
 use Rattle.world_core.specs.declared.event.Event.{Event}
 use Rattle.world_core.specs.declared.event.Event.TheVariants as event
 use Rattle.world_core.specs.declared.event.Happened.{Happened}
@@ -21,22 +15,24 @@ use Rattle.dir_top.specs.declared.state.Connection.{Connection}
 use Rattle.dir_top.specs.declared.state.Connection.TheVariants.{Closed, Open}
 use Rattle.dir_top.specs.declared.state.Owed.{Owed}
 use Rattle.dir_top.specs.declared.state.State.{State}
-use Rattle.dir_top.specs.State.{new_state, connection_in, with_connection, is_open, opened, speaks_for, owed_for, without_owed}
-use Rattle.dir_top.specs.Message.{request_of, is_write, is_built_write, is_built_request}
-use Rattle.dir_top.specs.Report.{out_line, add_reply, bind_reply, start_text, commit_text, settle_text, abort_text, acquire_text, release_text, offer_text, deliver_text, vector_text, dump_text}
+use Rattle.dir_top.specs.Client.{with_bytes, has_built}
+use Rattle.dir_top.specs.State.{new_state, connection_in, is_open, holds_part, opened, owed_for, without_owed}
+use Rattle.dir_top.specs.Message.{request_of, is_write, is_built_write}
+use Rattle.dir_top.specs.Serving.{fed}
+use Rattle.dir_top.specs.Report.{start_text, commit_text, settle_text, abort_text, acquire_text, release_text, offer_text, deliver_text, vector_text, dump_text}
 use Rattle.dir_top.specs.Line.{line_of}
 use Rattle.dir_top.specs.Output.{LineStep, GoesOn, Refuses, NotBuilt, TooMany, Told, told_of, before_feed, content_of}
 
 -- ---- what is built
 
-abbrev pub has_connection : Option State → ℕ → Bool
-has_connection None c = false
-has_connection (Some s) c = is_open (connection_in s c)
+-- each request that the bytes make whole is built
+abbrev pub makes_built : List ℕ → Connection → Bool
+makes_built bytes Closed = true
+makes_built bytes (Open node instance client) = has_built (with_bytes client bytes)
 
--- exactly one message of a request that is built
-abbrev pub is_built_message : Option Request → Bool
-is_built_message None = false
-is_built_message (Some request) = is_built_request request
+abbrev pub are_built : Option State → ℕ → List ℕ → Bool
+are_built None c bytes = true
+are_built (Some s) c bytes = makes_built bytes (connection_in s c)
 
 -- exactly one whole write, which is built or not
 abbrev pub is_one_write : Option Request → Bool
@@ -58,7 +54,7 @@ is_to_come line = false
 
 -- Bytes on a connection that is not there are refused as such. (The grammar has no `nodes` of more than 8.)
 abbrev pub is_built : Option State → Line → Bool
-is_built s (Input c bytes) = not (has_connection s c) || is_built_message (request_of bytes)
+is_built s (Input c bytes) = are_built s c bytes
 is_built s (Nodes n) = nat_le n 8
 is_built s line = not (is_to_come line)
 
@@ -117,7 +113,7 @@ why_state k false (Some committed) = why_if committed (why.State k)
 
 -- what is looked at after the names
 abbrev pub why_last : State → Line → Option LineWhy
-why_last s (StartWrite k c bytes) = why_if (not (is_one_write (request_of bytes))) why.Request
+why_last s (StartWrite k c bytes) = why_if (not (is_one_write (request_of bytes)) || holds_part (connection_in s c)) why.Request
 why_last s (Commit k) = why_state k false (is_committed s k)
 why_last s (Settle k) = why_state k true (is_committed s k)
 why_last s (Abort k) = why_state k false (is_committed s k)
@@ -153,8 +149,8 @@ owes happened owed o = if is_started happened then owed ++ o ∷ [] else owed
 
 abbrev pub start_by : State → ℕ → ℕ → Request → Connection → State × List ℕ
 start_by s k c request Closed = (s, [])
-start_by s k c request (Open node instance identity) =
-    let o = step judge_view s.world (event.Start k node request identity) in (
+start_by s k c request (Open node instance client) =
+    let o = step judge_view s.world (event.Start k node request client.bound) in (
       record s { world = o.world; owed = owes o.happened s.owed (record { ticket = k; connection = c; instance = instance; id = request.id }) },
       start_text k c request.id o.happened,
     )
@@ -167,32 +163,11 @@ start_of s k c (Some request) = start_by s k c request (connection_in s c)
 abbrev pub after_end : State → ℕ → Event → (Happened → List ℕ) → State × List ℕ
 after_end s k e text = let o = step judge_view s.world e in (record s { world = o.world; owed = without_owed k s.owed }, text o.happened)
 
--- a bind changes whom the connection speaks for
-abbrev pub after_bind : State → ℕ → ℕ → Connection → Identity × LdapResult → State × List ℕ
-after_bind s c id connection verdict = (with_connection s c (speaks_for verdict.0 connection), out_line c (bind_reply id verdict.1))
-
--- a write on an open connection, at its node (which is there)
-abbrev pub after_write : State → ℕ → ℕ → World × LdapResult → State × List ℕ
-after_write s c id r = (record s { world = r.0 }, out_line c (add_reply id r.1))
-
-abbrev pub write_by : State → ℕ → Request → Connection → State × List ℕ
-write_by s c request Closed = (s, [])
-write_by s c request (Open node instance identity) =
-    if is_node s.world node then after_write s c request.id (write_in judge_view s.world node request identity) else (s, [])
-
-abbrev pub answer_op : State → ℕ → Request → Op → State × List ℕ
-answer_op s c request (Bind bind) = after_bind s c request.id (connection_in s c) (bind_verdict bind)
-answer_op s c request op = write_by s c request (connection_in s c)
-
-abbrev pub answer_to : State → ℕ → Option Request → State × List ℕ
-answer_to s c None = (s, [])
-answer_to s c (Some request) = answer_op s c request request.op
-
 -- the state after a line that is built and that nothing refuses, and what the line prints
 abbrev pub carried : State → Line → State × List ℕ
 carried s (Clock time) = after_event s (event.Clock time) (λ h. [])
 carried s (Connect c n) = (opened s c n, [])
-carried s (Input c bytes) = answer_to s c (request_of bytes)
+carried s (Input c bytes) = fed s c bytes (connection_in s c)
 carried s (StartWrite k c bytes) = start_of s k c (request_of bytes)
 carried s (Commit k) = after_event s (event.Commit k) (commit_text k)
 carried s (Settle k) = after_end s k (event.Settle k) (settle_text s (owed_for s k) k)

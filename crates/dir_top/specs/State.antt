@@ -1,9 +1,8 @@
 -- The state of a script: a world, the connections to its nodes, and who waits for the answer to a ticket.
 use Rattle.std.specs.Prelude.{ℕ, ◌+◌, ◌-◌, Bool, true, false, not, ◌==◌, List, [], ◌∷◌, filter, find, codes, replicate, slice_index_or, slice_set, Option}
 use Rattle.repl_data.specs.declared.change.Suffix.{Suffix}
-use Rattle.ldap_types.specs.declared.reply.Identity.{Identity}
-use Rattle.ldap_types.specs.declared.reply.Identity.TheVariants.{Anonymous}
 use Rattle.world_core.specs.World.{new_world}
+use Rattle.dir_top.specs.Client.{new_client, has_part}
 use Rattle.dir_top.specs.declared.state.Connection.{Connection}
 use Rattle.dir_top.specs.declared.state.Connection.TheVariants.{Closed, Open}
 use Rattle.dir_top.specs.declared.state.Owed.{Owed}
@@ -31,16 +30,16 @@ with_connection s c connection = record s { connections = slice_set s.connection
 
 abbrev pub is_open : Connection → Bool
 is_open Closed = false
-is_open (Open node instance identity) = true
+is_open (Open node instance client) = true
 
--- a new connection to node n: nobody has bound on it
+-- a new connection to node n: nothing has come on it
 abbrev pub opened : State → ℕ → ℕ → State
-opened s c n = record (with_connection s c (Open n s.opened Anonymous)) { opened = s.opened + 1 }
+opened s c n = record (with_connection s c (Open n s.opened new_client)) { opened = s.opened + 1 }
 
--- whom a connection speaks for from now on
-abbrev pub speaks_for : Identity → Connection → Connection
-speaks_for identity Closed = Closed
-speaks_for identity (Open node instance old) = Open node instance identity
+-- it holds a part of a message
+abbrev pub holds_part : Connection → Bool
+holds_part Closed = false
+holds_part (Open node instance client) = has_part client
 
 -- ---- tickets that a client waits for
 
@@ -53,7 +52,7 @@ without_owed k owed = filter (λ (o : Owed). not (o.ticket == k)) owed
 -- the connection is still the one on which the ticket was begun
 abbrev pub is_same_connection : ℕ → Connection → Bool
 is_same_connection instance Closed = false
-is_same_connection instance (Open node now identity) = now == instance
+is_same_connection instance (Open node now client) = now == instance
 
 abbrev pub still_waits : State → Owed → Bool
 still_waits s o = is_same_connection o.instance (connection_in s o.connection)

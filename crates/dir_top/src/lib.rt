@@ -1,16 +1,22 @@
 //! The top calls of the program: `exec_main` carries out a script.
 #![tactic(auto)]
 
+mod client;
 mod exec;
 mod line;
 mod message;
 mod print;
 mod report;
 mod script;
+mod serving;
 mod state;
 mod status;
 #[cfg(test)]
 mod tests;
+#[cfg(test)]
+mod tests_adds;
+#[cfg(test)]
+mod tests_connections;
 mod why;
 mod words;
 

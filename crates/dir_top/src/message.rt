@@ -1,7 +1,7 @@
 ghost use Rattle.std.specs.Prelude.{◌≡◌, IfOk};
 ghost use Rattle.std.specs.List.{list_any};
 ghost use Rattle.ldap_rules.specs.Verdict.{is_built, is_update_control};
-ghost use Rattle.dir_top.specs.Message.{request_of, is_write_op, is_bind_op, is_write, is_built_write, is_built_request};
+ghost use Rattle.dir_top.specs.Message.{request_of, is_write_op, is_write, is_built_write};
 
 use ldap_requests::{ReadFault, read_request};
 use ldap_types::{Control, Op, Request};
@@ -60,15 +60,6 @@ fn is_built_op(op: &Op) -> bool
     }
 }
 
-fn is_bind_op(op: &Op) -> bool
-    ensures { result ≡ is_bind_op op.now }
-{
-    match op {
-        Op::Bind(_) => true,
-        _ => false,
-    }
-}
-
 /// A write of a client, and no update of another server.
 pub(crate) fn is_write(request: &Request) -> bool
     ensures { result ≡ is_write request.now }
@@ -81,15 +72,4 @@ pub(crate) fn is_built_write(request: &Request) -> bool
     ensures { result ≡ is_built_write request.now }
 {
     is_built_op(&request.op) && !has_update_control(request.controls.as_slice())
-}
-
-/// A request that is built so far.
-pub(crate) fn is_built_request(request: &Request) -> bool
-    ensures { result ≡ is_built_request request.now }
-{
-    if is_bind_op(&request.op) {
-        true
-    } else {
-        is_built_write(request)
-    }
 }

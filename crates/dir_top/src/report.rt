@@ -7,10 +7,11 @@ ghost use Rattle.ldap_replies.specs.Form.{reply_bytes};
 ghost use Rattle.world_core.specs.World.{used_up};
 ghost use Rattle.world_core.specs.Write.{busy, success};
 ghost use Rattle.dir_top.specs.Print.{words_line, entry_lines};
-ghost use Rattle.dir_top.specs.Report.{out_line, add_reply, bind_reply, reply_owed, start_text, commit_text, settle_text, reply_failed, abort_text, refused_words, not_holder_word, own_unknown_word, acquire_text, release_text, offer_text, answer_words, deliver_text, csn_words, vector_text, dump_text};
+ghost use Rattle.dir_top.specs.Report.{reply_line, reply_lines, closed_line, out_line, add_reply, reply_owed, start_text, commit_text, settle_text, reply_failed, abort_text, refused_words, not_holder_word, own_unknown_word, acquire_text, release_text, offer_text, answer_words, deliver_text, csn_words, vector_text, dump_text};
 
 use crate::print::{hexadecimal_word, number_word, print_entry, print_words};
 use crate::state::{Owed, State};
+use conn_core::Conn;
 use ldap_replies::write_reply;
 use ldap_types::{Code, LdapResult, Reply, ReplyOp};
 use node_core::{AcquireFault, Applied, ApplyFault};
@@ -112,18 +113,45 @@ fn line_text_csn(
 
 // ---- replies
 
+/// The bytes of a reply as a line, to connection `c`.
+fn reply_line(alloc: Global, c: u16, bytes: &[u8]) -> Result<Bytes, NoMemory>
+    ensures { IfOk result (λ text. text ≡ reply_line c bytes.now) }
+{
+    let mut words = with_one(alloc, b"out", u64::from(c))?;
+    words.push(hexadecimal_word(alloc, bytes)?)?;
+    line(alloc, &words)
+}
+
+/// The lines of the replies that wait, which are taken.
+pub(crate) fn reply_lines(alloc: Global, c: u16, conn: &mut Conn) -> Result<Bytes, NoMemory>
+    ensures text { IfOk result (λ text. text ≡ reply_lines c conn.old.replies) }
+    ensures taken { OnOk result (conn.new ≡ record conn.old { replies = [] }) }
+{
+    let mut text = Bytes::new(alloc);
+    while let Some(reply) = conn.next_reply() {
+        text.append(reply_line(alloc, c, reply.as_slice())?)?;
+    }
+    Ok(text)
+}
+
+/// `closed C`
+pub(crate) fn closed_line(alloc: Global, c: u16) -> Result<Bytes, NoMemory>
+    ensures { IfOk result (λ text. text ≡ closed_line c) }
+{
+    let words = with_one(alloc, b"closed", u64::from(c))?;
+    line(alloc, &words)
+}
+
 /// The reply as a line, to connection `c`.
 fn out_line(alloc: Global, c: u16, reply: &Reply) -> Result<Bytes, NoMemory>
     ensures { IfOk result (λ text. text ≡ out_line c reply.now) }
 {
     let mut bytes = Bytes::new(alloc);
     write_reply(alloc, &mut bytes, reply)?;
-    let mut words = with_one(alloc, b"out", u64::from(c))?;
-    words.push(hexadecimal_word(alloc, bytes.as_slice())?)?;
-    line(alloc, &words)
+    reply_line(alloc, c, bytes.as_slice())
 }
 
-pub(crate) fn out_add(alloc: Global, c: u16, id: u32, answer: LdapResult) -> Result<Bytes, NoMemory>
+fn out_add(alloc: Global, c: u16, id: u32, answer: LdapResult) -> Result<Bytes, NoMemory>
     ensures { IfOk result (λ text. text ≡ out_line c (add_reply id answer)) }
 {
     out_line(
@@ -132,24 +160,6 @@ pub(crate) fn out_add(alloc: Global, c: u16, id: u32, answer: LdapResult) -> Res
         &Reply {
             id,
             op: ReplyOp::Add(answer),
-        },
-    )
-}
-
-pub(crate) fn out_bind(
-    alloc: Global,
-    c: u16,
-    id: u32,
-    answer: LdapResult,
-) -> Result<Bytes, NoMemory>
-    ensures { IfOk result (λ text. text ≡ out_line c (bind_reply id answer)) }
-{
-    out_line(
-        alloc,
-        c,
-        &Reply {
-            id,
-            op: ReplyOp::Bind(answer),
         },
     )
 }

@@ -1,22 +1,20 @@
-ghost use Rattle.std.specs.Prelude.{◌≡◌, Some, None, true, false, not, ◌∷◌, [], IfOk, IsNone, OnOk};
-ghost use Rattle.ldap_rules.specs.Bind.{bind_verdict};
+ghost use Rattle.std.specs.Prelude.{◌≡◌, ◌||◌, Some, None, true, false, not, ◌∷◌, [], IfOk, IsNone, OnOk};
 ghost use Rattle.world_core.specs.World.{ticket_in};
 ghost use Rattle.dir_top.specs.declared.state.State.{State};
-ghost use Rattle.dir_top.specs.State.{connection_in};
-ghost use Rattle.dir_top.specs.Message.{request_of, is_built_write, is_built_request};
-ghost use Rattle.dir_top.specs.Script.{TheNode, TheConnection, NewConnection, TheTicket, NewTicket, TheUpdate, why_name, why_state, first_why, is_committed, why_if, is_one_write, is_write_to_come, is_to_come, is_started, line_step, owes, start_by, start_of, after_bind, write_by, answer_op};
+ghost use Rattle.dir_top.specs.State.{connection_in, holds_part};
+ghost use Rattle.dir_top.specs.Message.{request_of, is_built_write};
+ghost use Rattle.dir_top.specs.Script.{TheNode, TheConnection, NewConnection, TheTicket, NewTicket, TheUpdate, why_name, why_state, first_why, is_committed, why_if, is_one_write, is_write_to_come, is_to_come, is_started, line_step, owes, start_by, start_of};
 ghost use Rattle.dir_top.specs.Step.{meant, IsEventLine};
 
 use crate::line::Line;
-use crate::message::{is_built_request, is_built_write, is_write, request_of};
+use crate::message::{is_built_write, is_write, request_of};
 use crate::report::{
-    abort_text, acquire_text, commit_text, deliver_text, dump_text, offer_text, out_add, out_bind,
-    release_text, settle_text, start_text, vector_text,
+    abort_text, acquire_text, commit_text, deliver_text, dump_text, offer_text, release_text,
+    settle_text, start_text, vector_text,
 };
 use crate::state::{Connection, Owed, State};
 use crate::why::LineWhy;
-use ldap_rules::judge_bind;
-use ldap_types::{BindRequest, Op, Request};
+use ldap_types::Request;
 use repl_data::{Bytes, NoMemory};
 use std::alloc::Global;
 use world_core::{Event, Happened};
@@ -44,7 +42,7 @@ impl State {
     fn no_connection(&self, c: u16) -> Option<LineWhy>
         ensures { result ≡ why_name self.now (TheConnection c) }
     {
-        if self.connection(c).is_open() {
+        if self.is_open(c) {
             None
         } else {
             Some(LineWhy::Conn { c })
@@ -54,7 +52,7 @@ impl State {
     fn connection_taken(&self, c: u16) -> Option<LineWhy>
         ensures { result ≡ why_name self.now (NewConnection c) }
     {
-        if self.connection(c).is_open() {
+        if self.is_open(c) {
             Some(LineWhy::ConnTaken { c })
         } else {
             None
@@ -126,7 +124,7 @@ impl State {
         if let Some(why) = self.no_node(n) {
             return Ok(Step::Refuses(why));
         }
-        self.open(c, n)?;
+        self.open(alloc, c, n)?;
         Ok(Step::GoesOn(Bytes::new(alloc)))
     }
 
@@ -250,61 +248,25 @@ impl State {
 }
 
 impl State {
-    /// A bind changes whom the connection speaks for.
-    fn answer_bind(
-        &mut self,
-        alloc: Global,
-        c: u16,
-        id: u32,
-        bind: &BindRequest,
-    ) -> Result<Bytes, NoMemory>
-        ensures { IfOk result (λ text. (self.new, text) ≡ after_bind self.old c id (connection_in self.old c) (bind_verdict bind.now)) }
-    {
-        let (identity, answer) = judge_bind(alloc, bind)?;
-        let text = out_bind(alloc, c, id, answer)?;
-        self.bind(c, identity);
-        Ok(text)
-    }
-
-    /// A write goes to the node of its connection.
-    fn answer_write(&mut self, alloc: Global, c: u16, request: &Request) -> Result<Bytes, NoMemory>
-        requires { is_built_write request.now ≡ true }
-        ensures { IfOk result (λ text. (self.new, text) ≡ write_by self.old c request.now (connection_in self.old c)) }
-    {
-        let Connection::Open { node, identity, .. } = self.connection(c) else {
-            return Ok(Bytes::new(alloc));
-        };
-        if !self.world.has_node(node) {
-            return Ok(Bytes::new(alloc));
-        }
-        let answer = self.world.write(alloc, node, request, identity)?;
-        out_add(alloc, c, request.id, answer)
-    }
-
-    /// Answers a request on an open connection.
-    fn answer(&mut self, alloc: Global, c: u16, request: &Request) -> Result<Bytes, NoMemory>
-        requires { is_built_request request.now ≡ true }
-        ensures { IfOk result (λ text. (self.new, text) ≡ answer_op self.old c request.now request.now.op) }
-    {
-        match &request.op {
-            Op::Bind(bind) => self.answer_bind(alloc, c, request.id, bind),
-            _ => self.answer_write(alloc, c, request),
-        }
-    }
-
     fn input(&mut self, alloc: Global, c: u16, bytes: &Bytes) -> Result<Step, NoMemory>
         ensures { IfOk result (λ step. line_step (Some self.old) (Line.Input c bytes.now) ≡ meant step (Some self.new)) }
     {
-        if let Some(why) = self.no_connection(c) {
-            return Ok(Step::Refuses(why));
-        }
-        let Some(request) = request_of(alloc, bytes.as_slice())? else {
-            return Ok(Step::NotBuilt);
+        let Connection::Open {
+            node,
+            instance,
+            mut client,
+        } = self.take_connection(alloc, c)
+        else {
+            return Ok(Step::Refuses(LineWhy::Conn { c }));
         };
-        if !is_built_request(&request) {
+        client.hold(bytes.as_slice())?;
+        if !client.has_built(alloc)? {
             return Ok(Step::NotBuilt);
         }
-        Ok(Step::GoesOn(self.answer(alloc, c, &request)?))
+        if !self.world.has_node(node) {
+            return Ok(Step::GoesOn(Bytes::new(alloc)));
+        }
+        Ok(Step::GoesOn(self.serve(alloc, c, node, instance, client)?))
     }
 }
 
@@ -334,25 +296,27 @@ impl State {
         requires write { is_built_write request ≡ true }
         ensures { IfOk result (λ text. (self.new, text) ≡ start_by self.old k c request (connection_in self.old c)) }
     {
-        let Connection::Open {
-            node,
-            instance,
-            identity,
-        } = self.connection(c)
+        let Some(
+            Connection::Open {
+                node,
+                instance,
+                client,
+            },
+        ) = self.connection(c)
         else {
             return Ok(Bytes::new(alloc));
         };
         let owed = Owed {
             ticket: k,
             connection: c,
-            instance,
+            instance: *instance,
             id: request.id,
         };
         let event = Event::Start {
             k,
-            n: node,
+            n: *node,
             request,
-            bound: identity,
+            bound: client.bound(),
         };
         let happened = self.world.step(alloc, event)?;
         self.owe(&happened, owed)?;
@@ -361,7 +325,7 @@ impl State {
 
     /// The first reason against a ticket for the write of a connection.
     fn no_start(&self, k: u32, c: u16, request: &Option<Request>) -> Option<LineWhy>
-        ensures { result ≡ first_why (why_name self.now (NewTicket k) ∷ why_name self.now (TheConnection c) ∷ why_if (not (is_one_write request.now)) LineWhy.Request ∷ []) }
+        ensures { result ≡ first_why (why_name self.now (NewTicket k) ∷ why_name self.now (TheConnection c) ∷ why_if (not (is_one_write request.now) || holds_part (connection_in self.now c)) LineWhy.Request ∷ []) }
     {
         if let Some(why) = self.ticket_taken(k) {
             return Some(why);
@@ -369,10 +333,10 @@ impl State {
         if let Some(why) = self.no_connection(c) {
             return Some(why);
         }
-        if is_one_write(request) {
-            None
-        } else {
+        if !is_one_write(request) || self.holds_part(c) {
             Some(LineWhy::Request)
+        } else {
+            None
         }
     }
 

@@ -1,23 +1,23 @@
-ghost use Rattle.std.specs.Prelude.{◌≡◌, ◌≤◌, ◌==◌, find, IfOk, OnOk};
+ghost use Rattle.std.specs.Prelude.{◌≡◌, ◌≤◌, ◌==◌, find, replicate, slice_index_or, slice_set, unwrap_or, IfOk, OnOk};
 ghost use Rattle.std.specs.Option.{option_copied};
 ghost use Rattle.dir_top.specs.declared.state.Owed.{Owed};
-ghost use Rattle.dir_top.specs.State.{script_suffix, new_state, connection_in, with_connection, is_open, opened, speaks_for, owed_for, without_owed, is_same_connection, still_waits};
+ghost use Rattle.dir_top.specs.State.{script_suffix, new_state, connection_in, with_connection, is_open, opened, holds_part, owed_for, without_owed, is_same_connection, still_waits};
 
-use ldap_types::Identity;
+use crate::client::Client;
 use repl_data::{AttrKey, Ava, Bytes, Items, NoMemory, Rdn, Suffix, Val};
 use std::alloc::Global;
 use std::mem;
 use world_core::World;
 
 /// A connection of the script.
-#[derive(Clone, Copy, Debug, Eq, PartialEq)]
+#[derive(Debug, Drop)]
 pub enum Connection {
     Closed,
     Open {
         node: u16,
         /// How many connections had been opened before it.
         instance: u64,
-        identity: Identity,
+        client: Client,
     },
 }
 
@@ -35,16 +35,16 @@ pub struct Owed {
 #[derive(Debug, Drop)]
 pub struct State {
     pub world: World,
-    /// Connection C stands at place C - 1.
-    pub connections: [Connection; 64],
+    /// 64 connections; connection C stands at place C - 1.
+    pub connections: Items<Connection>,
     /// How many connections were ever opened.
     pub opened: u64,
     pub owed: Items<Owed>,
 }
 
 impl Connection {
-    pub(crate) fn is_open(self) -> bool
-        ensures { result ≡ is_open self }
+    fn is_open(&self) -> bool
+        ensures { result ≡ is_open self.now }
     {
         match self {
             Connection::Closed => false,
@@ -52,26 +52,45 @@ impl Connection {
         }
     }
 
-    fn speaks_for(self, identity: Identity) -> Connection
-        ensures { result ≡ speaks_for identity self }
-    {
-        match self {
-            Connection::Closed => Connection::Closed,
-            Connection::Open { node, instance, .. } => Connection::Open {
-                node,
-                instance,
-                identity,
-            },
-        }
-    }
-
-    fn is_same(self, instance: u64) -> bool
-        ensures { result ≡ is_same_connection instance self }
+    fn holds_part(&self) -> bool
+        ensures { result ≡ holds_part self.now }
     {
         match self {
             Connection::Closed => false,
-            Connection::Open { instance: now, .. } => now == instance,
+            Connection::Open { client, .. } => client.has_part(),
         }
+    }
+
+    fn is_same(&self, instance: u64) -> bool
+        ensures { result ≡ is_same_connection instance self.now }
+    {
+        match self {
+            Connection::Closed => false,
+            Connection::Open { instance: now, .. } => *now == instance,
+        }
+    }
+}
+
+/// The 64 connections, of which none is open.
+fn no_connections(alloc: Global) -> Result<Items<Connection>, NoMemory>
+    ensures { IfOk result (λ connections. connections ≡ replicate 64 Connection.Closed) }
+{
+    let mut connections = Items::new(alloc);
+    while connections.len() < 64 {
+        connections.push(Connection::Closed)?;
+    }
+    Ok(connections)
+}
+
+/// Takes out the connection at this place, if there is one.
+fn take_at(connections: &mut Vec<Connection>, place: usize) -> Connection
+    ensures taken { result ≡ slice_index_or connections.old.items place Connection.Closed }
+    ensures left { connections.new.items ≡ slice_set connections.old.items place Connection.Closed }
+{
+    if place < connections.len() {
+        mem::replace(&mut connections[place], Connection::Closed)
+    } else {
+        Connection::Closed
     }
 }
 
@@ -119,52 +138,72 @@ impl State {
         let suffix = script_suffix(alloc)?;
         Ok(State {
             world: World::new(alloc, n, &suffix)?,
-            connections: [Connection::Closed; 64],
+            connections: no_connections(alloc)?,
             opened: 0,
             owed: Items::new(alloc),
         })
     }
 
-    pub(crate) fn connection(&self, c: u16) -> Connection
-        ensures { result ≡ connection_in self.now c }
+    /// Connection `c`, where it has a place.
+    pub(crate) fn connection(&self, c: u16) -> Option<&Connection>
+        ensures { unwrap_or (option_copied result) Connection.Closed ≡ connection_in self.now c }
     {
-        let place = usize::from(c.saturating_sub(1));
-        self.connections
-            .get(place)
-            .copied()
-            .unwrap_or(Connection::Closed)
+        self.connections.get(usize::from(c.saturating_sub(1)))
     }
 
-    fn set_connection(&mut self, c: u16, connection: Connection)
-        ensures { self.new ≡ with_connection self.old c connection }
+    pub(crate) fn is_open(&self, c: u16) -> bool
+        ensures { result ≡ is_open (connection_in self.now c) }
     {
-        let place = usize::from(c.saturating_sub(1));
-        if place < 64 {
-            self.connections[place] = connection;
+        match self.connection(c) {
+            Some(connection) => connection.is_open(),
+            None => false,
         }
     }
 
+    /// A part of a message has come on the connection.
+    pub(crate) fn holds_part(&self, c: u16) -> bool
+        ensures { result ≡ holds_part (connection_in self.now c) }
+    {
+        match self.connection(c) {
+            Some(connection) => connection.holds_part(),
+            None => false,
+        }
+    }
+
+    pub(crate) fn set_connection(&mut self, c: u16, connection: Connection)
+        ensures { self.new ≡ with_connection self.old c connection }
+    {
+        let place = usize::from(c.saturating_sub(1));
+        if place < self.connections.len() {
+            self.connections.set(place, connection);
+        }
+    }
+
+    /// Takes a connection out, which leaves it closed.
+    pub(crate) fn take_connection(&mut self, alloc: Global, c: u16) -> Connection
+        ensures taken { result ≡ connection_in self.old c }
+        ensures left { self.new ≡ with_connection self.old c Connection.Closed }
+    {
+        let place = usize::from(c.saturating_sub(1));
+        let mut connections = mem::replace(&mut self.connections, Items::new(alloc)).into_vec();
+        let taken = take_at(&mut connections, place);
+        self.connections = Items::from_vec(connections);
+        taken
+    }
+
     /// Opens a connection to node `n`.
-    pub(crate) fn open(&mut self, c: u16, n: u16) -> Result<(), NoMemory>
+    pub(crate) fn open(&mut self, alloc: Global, c: u16, n: u16) -> Result<(), NoMemory>
         ensures { OnOk result (self.new ≡ opened self.old c n) }
     {
         let next = self.opened.checked_add(1).ok_or(NoMemory)?;
         let connection = Connection::Open {
             node: n,
             instance: self.opened,
-            identity: Identity::Anonymous,
+            client: Client::new(alloc)?,
         };
         self.set_connection(c, connection);
         self.opened = next;
         Ok(())
-    }
-
-    /// Whom a connection speaks for from now on.
-    pub(crate) fn bind(&mut self, c: u16, identity: Identity)
-        ensures { self.new ≡ with_connection self.old c (speaks_for identity (connection_in self.old c)) }
-    {
-        let connection = self.connection(c).speaks_for(identity);
-        self.set_connection(c, connection);
     }
 
     /// Who waits for the answer to a ticket. Looks at the tickets that are there, of which a node has
@@ -181,7 +220,10 @@ impl State {
     pub(crate) fn still_waits(&self, owed: Owed) -> bool
         ensures { result ≡ still_waits self.now owed }
     {
-        self.connection(owed.connection).is_same(owed.instance)
+        match self.connection(owed.connection) {
+            Some(connection) => connection.is_same(owed.instance),
+            None => false,
+        }
     }
 
     /// Nobody waits for the ticket any more.

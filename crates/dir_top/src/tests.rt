@@ -42,7 +42,7 @@ fn exec_words(alloc: Global) -> Result<Vec<String>, AllocError> {
 }
 
 /// Runs a script that comes in pieces of at most so many bytes, and compares the status, its text and what was written.
-fn expect<R: Abort + AllocGlobal>(
+pub(crate) fn expect<R: Abort + AllocGlobal>(
     rt: &R,
     script: &[u8],
     most: usize,
@@ -95,13 +95,16 @@ fn what_is_not_built_is_told_with_its_line(rt: HostRuntime) -> Result<(), Fail> 
         (b"nodes 1\naudit 8", b"line 2: not yet"),
         (b"nodes 1\nfail 1 1000000\n", b"line 2: not yet"),
         (b"nodes 1\npump 1 2\n", b"line 2: not yet"),
-        (b"nodes 1\nopen 1 1\nin 1 30\n", b"line 3: not yet"),
         (
-            b"nodes 1\nopen 1 1\nin 1 30050201094200\n",
+            b"nodes 1\nopen 1 1\nin 1 30140201034a0f6f753d612c64633d6578616d706c65\n",
             b"line 3: not yet",
         ),
         (
-            b"nodes 1\nopen 1 1\nin 1 3014020103a40f6f753d612c64633d6578616d706c65\n",
+            b"nodes 1\nopen 1 1\nin 1 3025020107632004000a01000a0100020100020100010100870b6f626a656374436c6173733000\n",
+            b"line 3: not yet",
+        ),
+        (
+            b"nodes 1\nopen 1 1\nin 1 3012020106770d800b322e3939392e3338392e31\n",
             b"line 3: not yet",
         ),
         (

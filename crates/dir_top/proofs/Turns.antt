@@ -1,0 +1,144 @@
+-- What the connections of conn_core do to a node of a world is what the script says of a line.
+use Rattle.std.proofs.Common.{◌≡◌, ℕ, ◌+◌, ◌-◌, ◌^◌, min, Bool, true, false, cond, ◌==◌, List, [], ◌∷◌, ◌++◌, refl, sym, ap, subst, ◌∙◌, arith, inl, inr, append-nil}
+use Rattle.std.proofs.lemmas.Bool.{true≢false}
+use Rattle.std.proofs.lemmas.Bool.Decides.{nat_tests}
+use Rattle.vector_core.proofs.Lists.{if_true, if_false}
+use Rattle.ldap_types.specs.declared.request.Request.{Request}
+use Rattle.ldap_types.specs.declared.request.Op.{Op}
+use Rattle.ldap_types.specs.declared.request.Op.TheVariants as op
+use Rattle.ldap_types.specs.declared.reply.Identity.{Identity}
+use Rattle.ldap_types.specs.declared.reply.LdapResult.{LdapResult}
+use Rattle.ldap_rules.specs.Case.{result_of}
+use Rattle.world_core.specs.World.{World}
+use Rattle.world_core.specs.At.{At}
+use Rattle.io_edge.specs.declared.machine.Fed.{Fed}
+use Rattle.conn_core.specs.declared.conn.Conn.{Conn}
+use Rattle.conn_core.specs.Whole.{Stream, stream_of}
+use Rattle.conn_core.specs.Serving.{Session, Serves, AreServed, IsWritten, reply_to, sent, plain_code, count_starved}
+use Rattle.conn_core.specs.Feeding.{session, Feeds, notice_of, held_of, is_end}
+use Rattle.conn_core.proofs.Cuts.{has_one_stream}
+use Rattle.dir_top.specs.Serving.{Served, after_bind, after_plain, after_write, serve_op, serve, serve_all}
+use Rattle.dir_top.specs.Turn.{turn_by, turn}
+use Rattle.dir_top.proofs.WritesAt.{at_reach, IsNotStarved, written-at, write-clock}
+
+-- ---- where no request was answered for want of memory at the end, none was before
+
+by_test : (b : Bool) (n : ℕ) → cond b (min (n + 1) (2 ^ 64 - 1)) n ≡ 0 → (b ≡ false) × (n ≡ 0)
+by_test true n e = absurd (omega arith)
+by_test false n e = (refl, e)
+
+uncounted : (result : LdapResult) (n : ℕ) → count_starved result n ≡ 0 → IsNotStarved result × (n ≡ 0)
+uncounted result n e =
+    let h = by_test (result.code.number == 80) n e in
+    (λ is. true≢false (sym (grind (arith, nat_tests, is)) ∙ h.0), h.1)
+
+starved-none : (now : ℕ) (rs : List Request) (old new : Session At) → AreServed at_reach now rs old new → new.starved ≡ 0 → old.starved ≡ 0
+starved-none now [] old new s e = sym (ap (λ (x : Session At). x.starved) s) ∙ e
+starved-none now (r ∷ rs) old new s e = (uncounted s.1.result old.starved (sym s.1.counted ∙ starved-none now rs s.0 new s.2 e)).1
+
+-- ---- one request
+
+abbrev served_of : Session At → Served
+served_of s = record { world = s.node.world; bound = s.bound; replies = s.replies }
+
+record IsSo (n now : ℕ) (r : Request) (old new : Session At) : Type 0 where
+  at_node : new.node.n ≡ n
+  clock : new.node.world.clock ≡ now
+  so : served_of new ≡ serve n (served_of old) r
+
+together : (w v : World) (a b : Identity) (x y : List (List ℕ)) → w ≡ v → a ≡ b → x ≡ y → ◌≡◌ {A = Served} (record { world = w; bound = a; replies = x }) (record { world = v; bound = b; replies = y })
+together w v a b x y p q u =
+    ap (λ z. record { world = z; bound = a; replies = x }) p
+    ∙ ap (λ z. record { world = v; bound = z; replies = x }) q
+    ∙ ap (λ z. record { world = v; bound = b; replies = z }) u
+
+module _ (now : ℕ) (r : Request) (old new : Session At) (clock : old.node.world.clock ≡ now) (result : LdapResult) (replied : new.replies ≡ old.replies ++ sent r.id (reply_to r.op result)) (fed : IsNotStarved result) where
+  abbrev IsLeft : Op → Type 0
+  IsLeft o = (new.node.n ≡ old.node.n) × (new.node.world.clock ≡ now) × (served_of new ≡ serve_op old.node.n (served_of old) r o)
+
+  plain : (code : ℕ) → new.node ≡ old.node → new.bound ≡ old.bound → result ≡ result_of code → (new.node.n ≡ old.node.n) × (new.node.world.clock ≡ now) × (served_of new ≡ after_plain (served_of old) r code)
+  plain code p q e = (
+    ap (λ (a : At). a.n) p,
+    ap (λ (a : At). a.world.clock) p ∙ clock,
+    together new.node.world old.node.world new.bound old.bound new.replies (old.replies ++ sent r.id (reply_to r.op (result_of code))) (ap (λ (a : At). a.world) p) q
+        (replied ∙ ap (λ x. old.replies ++ sent r.id (reply_to r.op x)) e),
+  )
+
+  served-op : (o : Op) → Serves at_reach now old.bound r old.node new.node new.bound result o → IsLeft o
+  served-op (op.Bind b) s =
+      elim s.1 [
+        | inl v ↦ (
+          ap (λ (a : At). a.n) s.0,
+          ap (λ (a : At). a.world.clock) s.0 ∙ clock,
+          together new.node.world old.node.world new.bound new.bound new.replies (old.replies ++ sent r.id (reply_to r.op result)) (ap (λ (a : At). a.world) s.0) refl replied
+              ∙ ap (λ p. after_bind (served_of old) r p) (sym v),
+        )
+        | inr short ↦ absurd (fed (ap (λ (x : LdapResult). x.code.number) short.1))
+      ]
+  served-op (op.Add object attrs) s =
+      elim s.1 [
+        | inl w ↦
+            (let h = written-at old.node new.node r old.bound (subst (λ t. IsWritten at_reach t old.bound r old.node new.node result) (sym clock) w.1) fed in (
+              h.0,
+              ap (λ (p : World × LdapResult). p.0.clock) (sym h.1) ∙ write-clock old.node.world old.node.n r old.bound ∙ clock,
+              together new.node.world new.node.world new.bound old.bound new.replies (old.replies ++ sent r.id (reply_to r.op result)) refl s.0 replied
+                  ∙ ap (λ p. after_write (served_of old) r p) (sym h.1)
+                  ∙ sym (if_false _ _ w.0),
+            ))
+        | inr u ↦
+            (let h = plain 53 u.1 s.0 u.2 in
+            (h.0, h.1, h.2 ∙ sym (if_true _ _ u.0)))
+      ]
+  served-op op.Unbind s = plain (plain_code op.Unbind) s.0 s.1 s.2
+  served-op (op.Search search) s = plain (plain_code (op.Search search)) s.0 s.1 s.2
+  served-op (op.Modify object mods) s = plain (plain_code (op.Modify object mods)) s.0 s.1 s.2
+  served-op (op.Delete object) s = plain (plain_code (op.Delete object)) s.0 s.1 s.2
+  served-op (op.Rename object new_rdn delete_old new_superior) s = plain (plain_code (op.Rename object new_rdn delete_old new_superior)) s.0 s.1 s.2
+  served-op (op.Compare object name value) s = plain (plain_code (op.Compare object name value)) s.0 s.1 s.2
+  served-op (op.Abandon id) s = plain (plain_code (op.Abandon id)) s.0 s.1 s.2
+  served-op (op.Extended oid value) s = plain (plain_code (op.Extended oid value)) s.0 s.1 s.2
+
+-- ---- all of them
+
+pub served-all : (n now : ℕ) (rs : List Request) (old new : Session At) → AreServed at_reach now rs old new → new.starved ≡ 0 → old.node.n ≡ n → old.node.world.clock ≡ now → served_of new ≡ serve_all n (served_of old) rs
+served-all n now [] old new s e here clock = ap served_of s
+served-all n now (r ∷ rs) old new s e here clock =
+    let between = s.0 in
+    let one = s.1 in
+    let none = starved-none now rs between new s.2 e in
+    let h = served-op now r old between clock one.result one.replied (uncounted one.result old.starved (sym one.counted ∙ none)).0 r.op one.served in
+    served-all n now rs between new s.2 e (h.0 ∙ here) h.1
+    ∙ ap (λ x. serve_all n x rs) (h.2 ∙ ap (λ m. serve m (served_of old) r) here)
+
+-- ---- a feed
+
+whole : (a b : List ℕ) (x y : List (List ℕ)) (i j : Identity) (m n : ℕ) (s t : Bool) → a ≡ b → x ≡ y → i ≡ j → m ≡ n → s ≡ t → ◌≡◌ {A = Conn} (record { held = a; replies = x; bound = i; starved = m; is_closed = s }) (record { held = b; replies = y; bound = j; starved = n; is_closed = t })
+whole a b x y i j m n s t p q u v k =
+    ap (λ z. record { held = z; replies = x; bound = i; starved = m; is_closed = s }) p
+    ∙ ap (λ z. record { held = b; replies = z; bound = i; starved = m; is_closed = s }) q
+    ∙ ap (λ z. record { held = b; replies = y; bound = z; starved = m; is_closed = s }) u
+    ∙ ap (λ z. record { held = b; replies = y; bound = j; starved = z; is_closed = s }) v
+    ∙ ap (λ z. record { held = b; replies = y; bound = j; starved = n; is_closed = z }) k
+
+-- THE LAW: over a node of a world a feed is what the definitions say, where memory sufficed
+pub fed-turn : (now : ℕ) (piece : List ℕ) (old : Conn) (here : At) (fed : Fed) (new : Conn) (there : At) → Feeds at_reach now piece old here fed new there → new.starved ≡ 0 → here.world.clock ≡ now → ◌≡◌ {A = World × Conn} (there.world, new) (turn here.world here.n old (stream_of (old.held ++ piece)))
+fed-turn now piece old here fed new there f none clock =
+    let bytes = old.held ++ piece in
+    let requests = f.carried.requests in
+    let stream : Stream = record { requests = requests; left = f.left; fed = fed } in
+    let is = has_one_stream.only bytes requests f.left fed (record { begins = f.carried.begins; ends = f.ends }) in
+    let fed_all = sym (ap (λ (x : Session At). x.starved) f.state) ∙ none in
+    let served = served-all here.n now requests (session old here) f.last f.carried.served fed_all refl clock in
+    ap (λ w. (w, new)) (ap (λ (x : Session At). x.node.world) f.state)
+    ∙ ap (λ c. (f.last.node.world, c))
+    (whole new.held (held_of fed f.left) new.replies (f.last.replies ++ notice_of fed) new.bound f.last.bound new.starved 0 new.is_closed (is_end fed) f.held (ap (λ (x : Session At). x.replies) f.state) (ap (λ (x : Session At). x.bound) f.state) none f.closed)
+    ∙ ap (λ s. turn_by stream s) served
+    ∙ ap (λ x. turn here.world here.n old x) (sym is)
+
+-- the bytes were held before
+pub held-turn : (w : World) (n now : ℕ) (old new : Conn) (here there : At) (fed : Fed) (after : World) → here ≡ record { world = w; n = n } → now ≡ w.clock → after ≡ there.world → Feeds at_reach now [] old here fed new there → new.starved ≡ 0 → ◌≡◌ {A = World × Conn} (after, new) (turn w n old (stream_of old.held))
+held-turn w n now old new here there fed after h k l f none =
+    ap (λ x. (x, new)) l
+    ∙ fed-turn now [] old here fed new there f none (ap (λ (a : At). a.world.clock) h ∙ sym k)
+    ∙ ap (λ (a : At). turn a.world a.n old (stream_of (old.held ++ []))) h
+    ∙ ap (λ bytes. turn w n old (stream_of bytes)) (append-nil old.held)
