@@ -8,7 +8,7 @@
 set -eu
 
 here=$(cd "$(dirname "$0")/.." && pwd)
-"$here/dirnode" exec < /dev/null
+"$here/dirnode" build
 
 generate() {
     awk -v n="$1" '

@@ -4,7 +4,7 @@
 set -eu
 
 here=$(cd "$(dirname "$0")/.." && pwd)
-"$here/dirnode" exec < /dev/null
+"$here/dirnode" build
 
 # an add with about $1 bytes of values, as `one` value or `many`, in hexadecimal
 message() {

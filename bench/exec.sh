@@ -3,7 +3,7 @@
 set -eu
 
 here=$(cd "$(dirname "$0")/.." && pwd)
-"$here/dirnode" exec < /dev/null
+"$here/dirnode" build
 
 measure() {
     start=$(date +%s.%N)
