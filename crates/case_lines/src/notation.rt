@@ -1,7 +1,9 @@
 //! Bytes as cases write them, both ways.
 
+ghost use Rattle.std.specs.Prelude.{◌≤◌, length};
+
 use crate::fault::CaseFault;
-use crate::scan::find_bare;
+use crate::scan::split_bare;
 use std::alloc::Global;
 use std::fmt::Write;
 use std::str;
@@ -14,11 +16,11 @@ pub fn read_bytes(alloc: Global, word: &[u8]) -> Result<Vec<u8>, CaseFault> {
     let mut bytes = Vec::new(alloc);
     let mut rest = word;
     for _ in 0..word.len() {
-        let Some(at) = find_bare(rest, b'+') else {
+        let Some((part, behind)) = split_bare(rest, b'+') else {
             break;
         };
-        read_part(alloc, &mut bytes, &rest[..at])?;
-        rest = &rest[at + 1..];
+        read_part(alloc, &mut bytes, part)?;
+        rest = behind;
     }
     read_part(alloc, &mut bytes, rest)?;
     Ok(bytes)
@@ -26,16 +28,16 @@ pub fn read_bytes(alloc: Global, word: &[u8]) -> Result<Vec<u8>, CaseFault> {
 
 /// Appends what one part writes.
 fn read_part(alloc: Global, bytes: &mut Vec<u8>, part: &[u8]) -> Result<(), CaseFault> {
-    let Some(at) = find_bare(part, b'*') else {
+    let Some((unit, count)) = split_bare(part, b'*') else {
         return read_repeated(alloc, bytes, part, 1);
     };
-    let count = str::from_utf8(&part[at + 1..])
+    let count = str::from_utf8(count)
         .ok()
         .and_then(|text| text.parse::<u32>().ok());
     let Some(count) = count else {
         return Err(CaseFault::Argument);
     };
-    read_repeated(alloc, bytes, &part[..at], count)
+    read_repeated(alloc, bytes, unit, count)
 }
 
 /// Appends what is in quotes or hexadecimal, so many times.
@@ -92,7 +94,9 @@ pub fn tell_bytes(told: &mut String, bytes: &[u8]) -> Result<(), CaseFault> {
 }
 
 /// How many bytes at the front are the same.
-fn first_run(bytes: &[u8]) -> usize {
+fn first_run(bytes: &[u8]) -> usize
+    ensures { result ≤ length bytes.now }
+{
     let Some(first) = bytes.first() else {
         return 0;
     };

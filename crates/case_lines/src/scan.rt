@@ -27,6 +27,12 @@ pub fn find_bare(text: &[u8], wanted: u8) -> Option<usize>
     None
 }
 
+/// What stands before the first such byte outside quotes, and what behind it.
+pub fn split_bare(text: &[u8], wanted: u8) -> Option<(&[u8], &[u8])> {
+    let at = find_bare(text, wanted)?;
+    Some((&text[..at], &text[at + 1..]))
+}
+
 /// The place of the first `=` outside quotes that has only spaces or an end beside it.
 pub fn find_equals(text: &[u8]) -> Option<usize>
     ensures { IfSome result (λ at. at < length text.now) }
