@@ -25,5 +25,6 @@ mod scan;
 pub use fault::{CaseFault, or_memory};
 pub use fields::Fields;
 pub use judge::{Subjects, Tally, judge_text};
-pub use notation::{tell_bytes, tell_text};
+pub use notation::{read_bytes, tell_bytes, tell_text};
 pub use run::run_cases;
+pub use scan::split_bare;

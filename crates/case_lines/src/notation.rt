@@ -103,15 +103,17 @@ fn first_run(bytes: &[u8]) -> usize
     bytes.iter().take_while(|byte| *byte == first).count()
 }
 
-/// Appends these bytes in quotes where they are printable ASCII without `"`, and else as
-/// [`tell_bytes`] does.
+/// Appends these bytes in quotes where they are printable ASCII without one of the two quotes, and
+/// else as [`tell_bytes`] does.
 pub fn tell_text(told: &mut String, bytes: &[u8]) -> Result<(), CaseFault> {
-    let plain = bytes
-        .iter()
-        .all(|byte| (b' '..=b'~').contains(byte) && *byte != b'"');
+    let plain = bytes.iter().all(|byte| (b' '..=b'~').contains(byte));
     match str::from_utf8(bytes) {
-        Ok(text) if plain => {
+        Ok(text) if plain && !text.contains('"') => {
             write!(told, "\"{text}\"")?;
+            Ok(())
+        }
+        Ok(text) if plain && !text.contains('\'') => {
+            write!(told, "'{text}'")?;
             Ok(())
         }
         _ => tell_bytes(told, bytes),
