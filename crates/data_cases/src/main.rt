@@ -1,12 +1,27 @@
-//! Cases of the crates of data.
+//! Cases of the crates of data: elements of BER, keys, names, CSNs, changes, vectors, what a node
+//! draws, and the changelog. The first word of a case names the crate's part, the second the call.
 #![tactic(auto)]
 
-use case_lines::{CaseFault, Fields, Subjects, run_cases, tell_bytes, tell_text};
+mod ber;
+mod csns;
+mod draws;
+mod items;
+mod keys;
+mod log;
+mod names;
+mod vectors;
+
+use case_lines::{CaseFault, Fields, Subjects, run_cases};
 use std::alloc::Global;
 use std::process::ExitCode;
 
+/// What a case may keep for the next one.
 #[derive(Drop)]
-struct Data;
+struct Data {
+    items: items::ItemCases,
+    pending: draws::PendingCases,
+    log: log::LogCases,
+}
 
 impl Subjects for Data {
     fn answer(
@@ -17,13 +32,34 @@ impl Subjects for Data {
         told: &mut String,
     ) -> Result<(), CaseFault> {
         match subject {
-            "bytes" => tell_bytes(told, fields.bytes(alloc)?.as_slice()),
-            "text" => tell_text(told, fields.bytes(alloc)?.as_slice()),
+            "ber" => ber::answer(alloc, fields, told),
+            "key" => keys::answer(alloc, fields, told),
+            "dn" => names::answer(alloc, fields, told),
+            "csn" => csns::answer(alloc, fields, told),
+            "items" => self.items.answer(alloc, fields, told),
+            "vector" => vectors::answer(alloc, fields, told),
+            "generator" => draws::generator(fields, told),
+            "pending" => self.pending.answer(alloc, fields, told),
+            "log" => self.log.answer(alloc, fields, told),
             _ => Err(CaseFault::Subject),
         }
     }
 }
 
+fn make_data(alloc: Global) -> Result<Data, CaseFault> {
+    let pending = draws::PendingCases::new(alloc)?;
+    let log = log::LogCases::new(alloc)?;
+    let items = items::ItemCases::new(alloc);
+    Ok(Data {
+        items,
+        pending,
+        log,
+    })
+}
+
 fn main(rt: HostRuntime) -> ExitCode {
-    run_cases(&rt, &mut Data)
+    match make_data(rt.alloc()) {
+        Ok(mut data) => run_cases(&rt, &mut data),
+        Err(_) => ExitCode::from(1),
+    }
 }
