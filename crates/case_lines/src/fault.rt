@@ -1,5 +1,8 @@
 //! Why a case has no answer.
 
+ghost use Rattle.std.specs.Prelude.{◌≡◌, Ok, IfOk, IfErr};
+ghost use Rattle.case_lines.specs.declared.fault.CaseFault.TheVariants as fault;
+
 use std::alloc::{AllocError, AllocFailed};
 use std::error::Error;
 use std::fmt;
@@ -40,7 +43,10 @@ impl<T: Drop> From<AllocFailed<T>> for CaseFault {
 }
 
 /// The value of a call that fails only for want of memory.
-pub fn or_memory<T, E: Drop>(outcome: Result<T, E>) -> Result<T, CaseFault> {
+pub fn or_memory<T, E: Drop>(outcome: Result<T, E>) -> Result<T, CaseFault>
+    ensures ok { IfOk result (λ value. outcome ≡ Ok value) }
+    ensures err { IfErr result (λ e. e ≡ fault.NoMemory) }
+{
     match outcome {
         Ok(value) => Ok(value),
         Err(_) => Err(CaseFault::NoMemory),

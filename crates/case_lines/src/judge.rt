@@ -67,10 +67,11 @@ fn judge_line<S: Subjects>(
     };
     let mut fields = Fields::new(&line[..at]);
     if let Err(fault) = ask(alloc, &mut fields, subjects, told) {
+        told.clear();
         write!(told, "{fault}")?;
         return Ok(false);
     }
-    Ok(told.as_bytes() == line[at + 1..].trim_ascii())
+    Ok(told.as_bytes().trim_ascii() == line[at + 1..].trim_ascii())
 }
 
 /// Asks the subject that the first word names, which has to take all arguments.

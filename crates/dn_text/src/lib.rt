@@ -18,6 +18,3 @@ pub use name::{Dn, RdnList, read_dn};
 pub use print::print_dn;
 pub use repl_data::{Ava, AvaList, Bytes, NoMemory, Rdn, Suffix};
 pub use suffix::read_suffix;
-
-#[cfg(test)]
-mod tests;

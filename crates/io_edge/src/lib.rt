@@ -13,8 +13,6 @@ mod edge;
 mod machine;
 mod memory;
 mod standard;
-#[cfg(test)]
-mod tests;
 
 pub use calm::{CalmSink, CalmSource};
 pub use clock::{Clock, SetClock};

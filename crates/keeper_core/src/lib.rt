@@ -10,8 +10,6 @@ mod laws;
 mod map;
 mod row;
 mod rows;
-#[cfg(test)]
-mod tests;
 
 pub use calm::CalmKeeper;
 pub use keeper::{KeepFault, Keeper};

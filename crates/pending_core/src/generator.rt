@@ -69,26 +69,3 @@ pub fn draw_laws()
     // CSNs of two pairs are in the order of the pairs.
     ensures csns { (a b : Csn) → is_before (generator_at (a.time, a.seq)) (generator_at (b.time, b.seq)) ≡ true → csn_lt a b ≡ true }
 {}
-
-#[cfg(test)]
-mod tests {
-    use super::*;
-
-    const LAST: Exhausted = Exhausted {
-        last: (u32::MAX, u16::MAX),
-    };
-
-    #[test]
-    fn draws_rise_and_end_at_the_last_pair(rt: HostRuntime) {
-        let rows = [
-            ((100, 5), 100, Ok((100, 6))),
-            ((100, 5), 101, Ok((101, 0))),
-            ((100, 65535), 100, Ok((101, 0))),
-            ((4294967295, 65535), 100, Err(LAST)),
-        ];
-        for ((time, seq), now, answer) in rows {
-            let mut generator = Generator { time, seq };
-            assert_eq!(rt; generator.next(now), answer);
-        }
-    }
-}

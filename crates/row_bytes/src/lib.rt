@@ -18,6 +18,3 @@ pub use read::read_change;
 pub use repl_data::{Bytes, Change, Csn, NoMemory};
 pub use stored::{CHANGE_KIND, read_row, row_of_change};
 pub use write::write_change;
-
-#[cfg(test)]
-mod tests;

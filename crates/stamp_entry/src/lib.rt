@@ -8,8 +8,6 @@ mod raise;
 mod root;
 mod shown;
 mod sorted;
-#[cfg(test)]
-mod tests;
 
 pub use entry::{StampedAttr, StampedAttrList, StampedEntry, StampedVal, StampedValList};
 pub use laws::stamped_laws;
