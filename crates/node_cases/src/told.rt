@@ -30,10 +30,7 @@ fn tell_skew(told: &mut String, csn: Csn, now: u32) -> Result<(), CaseFault> {
 }
 
 /// Tells what came of an acquire.
-pub fn tell_acquired(
-    told: &mut String,
-    answer: Result<(), AcquireFault>,
-) -> Result<(), CaseFault> {
+pub fn tell_acquired(told: &mut String, answer: Result<(), AcquireFault>) -> Result<(), CaseFault> {
     match answer {
         Ok(()) => tell(told, "taken"),
         Err(AcquireFault::WrongSuffix) => tell(told, "another suffix"),
