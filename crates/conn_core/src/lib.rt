@@ -10,8 +10,6 @@ mod machine;
 mod queue;
 mod reply;
 mod rest;
-#[cfg(test)]
-mod tests;
 mod write;
 
 pub use conn::Conn;

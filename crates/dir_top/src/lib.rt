@@ -11,12 +11,6 @@ mod script;
 mod serving;
 mod state;
 mod status;
-#[cfg(test)]
-mod tests;
-#[cfg(test)]
-mod tests_adds;
-#[cfg(test)]
-mod tests_connections;
 mod why;
 mod words;
 

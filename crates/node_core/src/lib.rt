@@ -19,6 +19,3 @@ pub use ldap_types::Identity;
 pub use node::NodeState;
 pub use ticket::{Receipt, Ticket};
 pub use vector_core::{AcquireFault, Applied, ApplyFault, Offer, Start};
-
-#[cfg(test)]
-mod tests;

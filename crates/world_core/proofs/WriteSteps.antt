@@ -45,13 +45,6 @@ finish-committed w r ticket receipt v mid new l h o s =
     ∙ ap (λ x. (world_after w r mid x receipt.csn, success)) (sym h.1)
     ∙ ap (λ ns. (record w { nodes = ns }, success)) (sym s)
 
-pub committed-held : (met : Node) (ticket : NodeTicket) (receipt : Receipt) (v : Verdict) (now : ℕ) (left : Node) → IsSoundNode met → IsOpen met ticket.csn → CommitsUnder met ticket v now (Ok receipt) left → IsPendingTaken left receipt.csn
-committed-held met ticket receipt v now left s o h =
-    let leaves : CommitLeaves met ticket.life ticket.csn v (Committed receipt.csn) =
-    subst (λ a. CommitLeaves met ticket.life ticket.csn v a) h.0.0 (commit_leaves met ticket.life ticket.csn v now false s (λ l. o)) in
-    subst (λ m. IsPendingTaken m receipt.csn) (sym h.0.1)
-    (record { is_pending = leaves.1; is_taken = taken-new met ticket.life ticket.csn v now receipt.csn h.0.0 })
-
 -- ---- a commit that failed, and the abort
 
 csn-stays : (fault : CommitFault) (csn : Csn) (a : CommitAnswer) → answer_of fault ≡ Some a → csn_after csn a ≡ csn
@@ -66,9 +59,6 @@ csn-stays commit.KeeperFault csn a e = absurd (none_some e)
 csn-stays (commit.Stale life node_life) csn a e = subst (λ x. csn_after csn x ≡ csn) (Some-same e) refl
 csn-stays (commit.Refused result) csn a e = subst (λ x. csn_after csn x ≡ csn) (Some-same e) refl
 csn-stays (commit.Exhausted last) csn a e = subst (λ x. csn_after csn x ≡ csn) (Some-same e) refl
-
-pub nothing_changed : (w : World) (r : ℕ) (mid : List Node) → node_of mid r ≡ node_in w r → mid ≡ with_node w.nodes r (node_of mid r) → mid ≡ w.nodes
-nothing_changed w r mid e o = o ∙ ap (λ m. with_node w.nodes r m) e ∙ same_node w.nodes r
 
 answer-is : (o : Option CommitAnswer) → IsSome o → (a : CommitAnswer) × (o ≡ Some a)
 answer-is (Some a) i = (a, refl)
@@ -104,46 +94,9 @@ finish-refused w r ticket back v fault (Ok answer) mid new l f o s i j =
     ∙ ap (λ ns. (record w { nodes = ns }, result_of a)) (sym s)
     ∙ ap (λ z. (record w { nodes = new }, z)) (sym told)
 
-pub finish-ended : (w : World) (r : ℕ) (ticket back : NodeTicket) (v : Verdict) (fault : CommitFault) (mid new : List Node) → FaultSays (node_in w r) ticket back v w.clock fault (node_of mid r) → mid ≡ with_node w.nodes r (node_of mid r) → new ≡ with_node mid r (ended (node_of mid r) back.life back.csn) → record w { nodes = new } ≡ end_at w r ticket.life ticket.csn
-finish-ended w r ticket back v fault mid new f o s =
-    ap (λ ns. record w { nodes = ns }) s
-    ∙ ap (λ ns. world_after w r ns back.life back.csn) (nothing_changed w r mid f.same_node o)
-    ∙ ap (λ (b : NodeTicket). world_after w r w.nodes b.life b.csn) f.same_ticket
-
--- the ticket that comes back may be given up
-pub back-open : (met : Node) (ticket back : NodeTicket) (v : Verdict) (now : ℕ) (fault : CommitFault) (left : Node) → IsOpen met ticket.csn → FaultSays met ticket back v now fault left → IsOpen left back.csn
-back-open met ticket back v now fault left o f =
-    subst (λ m. IsOpen m back.csn) (sym f.same_node) (subst (λ (b : NodeTicket). IsOpen met b.csn) (sym f.same_ticket) o)
-
 -- ---- the whole
 
 pub written-done : (w v : World) (r : ℕ) (request : Request) (bound : Identity) (csn : Csn) (after : World) (answer : LdapResult) → begin_answer (node_in w r) w.clock ≡ Ok csn → v ≡ begin_at w r → finished v r csn (verdict_at judge_view (node_in v r) request bound) (committing v r (node_in v r).life csn (verdict_at judge_view (node_in v r) request bound)) ≡ (after, answer) → write_in judge_view w r request bound ≡ (after, answer)
 written-done w v r request bound csn after answer e b h =
     ap (λ a. written_from judge_view w r request bound a) e
     ∙ ap (λ (x : World). finished x r csn (verdict_at judge_view (node_in x r) request bound) (committing x r (node_in x r).life csn (verdict_at judge_view (node_in x r) request bound))) (sym b) ∙ h
-
-pub begun-world : (w : World) (r : ℕ) (csn : Csn) (nodes : List Node) → begin_answer (node_in w r) w.clock ≡ Ok csn → node_of nodes r ≡ after_begin (node_in w r) (Ok csn) → nodes ≡ with_node w.nodes r (node_of nodes r) → record w { nodes = nodes } ≡ begin_at w r
-begun-world w r csn nodes e l o =
-    ap (λ ns. record w { nodes = ns }) (o ∙ ap (λ m. with_node w.nodes r m) (l ∙ ap (λ a. after_begin (node_in w r) a) (sym e)))
-
-begin-kept : (w : World) (r : ℕ) → IsKept w → IsNode w.nodes r → IsKept (begin_at w r)
-begin-kept w r k i = called-kept judge_view w r CallBegin k (i, tt)
-
-pub begun-kept : (w v : World) (r : ℕ) → IsKept w → IsNode w.nodes r → v ≡ begin_at w r → IsKept v
-begun-kept w v r k i b = subst (λ x. IsKept x) (sym b) (begin-kept w r k i)
-
--- a ticket that was begun, and given up
-pub ended-kept : (w v after : World) (r life : ℕ) (request : Request) (bound : Identity) (csn : Csn) → IsKept w → IsNode w.nodes r → begin_answer (node_in w r) w.clock ≡ Ok csn → v ≡ begin_at w r → life ≡ (node_in v r).life → after ≡ end_at v r life csn → IsKept after
-ended-kept w v after r life request bound csn k i e b l a =
-    let there : life ≡ (node_in (begin_at w r) r).life = l ∙ ap (λ (x : World). (node_in x r).life) b in
-    subst (λ x. IsKept x) (sym (a ∙ ap (λ (x : World). end_at x r life csn) b ∙ ap (λ z. end_at (begin_at w r) r z csn) there))
-    (called-kept judge_view (begin_at w r) r (CallEnd (node_in (begin_at w r) r).life csn) (begin-kept w r k i)
-    (with-IsNode w.nodes r r _ i, none judge_view w r request bound csn k.lawful i e))
-
-pub write-kept : (w after : World) (r : ℕ) (request : Request) (bound : Identity) (answer : LdapResult) → IsKept w → IsNode w.nodes r → write_in judge_view w r request bound ≡ (after, answer) → IsKept after
-write-kept w after r request bound answer k i e =
-    subst (λ x. IsKept x) (ap (λ (x : World × LdapResult). x.0) e) (leads-kept judge_view w (write_in judge_view w r request bound).0 (write-leads judge_view w r request bound k.lawful i) k)
-
-pub either-kept : (w v after : World) (r life : ℕ) (request : Request) (bound : Identity) (csn : Csn) (result : Result LdapResult NoMemory) → IsKept w → IsNode w.nodes r → begin_answer (node_in w r) w.clock ≡ Ok csn → v ≡ begin_at w r → life ≡ (node_in v r).life → IfOk result (λ answer. write_in judge_view w r request bound ≡ (after, answer)) → OnErr result (after ≡ end_at v r life csn) → IsKept after
-either-kept w v after r life request bound csn (Ok answer) k i e b l h g = write-kept w after r request bound answer k i h
-either-kept w v after r life request bound csn (Err short) k i e b l h g = ended-kept w v after r life request bound csn k i e b l g

@@ -22,7 +22,7 @@ use repl_data::{Bytes, NoMemory};
 use std::alloc::Global;
 
 /// The result 53 unwillingToPerform that says that no CSN is left.
-pub(crate) fn used_up(alloc: Global) -> Result<LdapResult, NoMemory>
+fn used_up(alloc: Global) -> Result<LdapResult, NoMemory>
     ensures { IfOk result (λ answer. answer ≡ used_up) }
 {
     Ok(LdapResult {

@@ -18,7 +18,6 @@ mod state;
 mod step;
 mod told;
 mod world;
-mod write;
 
 pub use at::AtNode;
 pub use event::{CsnList, Event, Happened};
@@ -26,6 +25,3 @@ pub use laws::{deed_laws, honest_laws, judge_laws, run_laws, write_laws};
 pub use parts::{Offered, Session};
 pub use sessions::session_laws;
 pub use world::World;
-
-#[cfg(test)]
-mod tests;

@@ -2,14 +2,11 @@ ghost use Rattle.std.specs.Prelude.{◌≡◌, ◌≤◌, true, is_some, option_
 ghost use Rattle.repl_data.specs.declared.change.Suffix.{Suffix};
 ghost use Rattle.node_core.specs.Steps.{judge_view};
 ghost use Rattle.world_core.specs.World.{Ticket, new_world, is_node, step, ticket_in, session_in, update_in};
-ghost use Rattle.node_core.specs.Calls.{IsWrite};
 ghost use Rattle.world_core.specs.Laws.{MayHappen, IsHonest};
-ghost use Rattle.world_core.specs.Write.{write_in};
 
 use crate::event::{Event, Happened};
 use crate::nodes::new_nodes;
 use crate::state::WorldState;
-use ldap_types::{Identity, LdapResult, Request};
 use repl_data::{NoMemory, Suffix};
 use std::alloc::Global;
 use std::marker::Model;
@@ -96,22 +93,6 @@ impl World {
         ensures honest { IsHonest self.old → IsHonest self.new }
     {
         self.state.step(alloc, event)
-    }
-
-    /// What node `r` answers to a write that a client asks for: it begins a ticket, commits it, and
-    /// settles it or gives it up. Where memory is wanting, a CSN may have been drawn and given up.
-    pub fn write(
-        &mut self,
-        alloc: Global,
-        r: u16,
-        request: &Request,
-        bound: Identity,
-    ) -> Result<LdapResult, NoMemory>
-        requires node { is_node self.old r ≡ true }
-        requires write { IsWrite request.now bound }
-        ensures { IfOk result (λ answer. (self.new, answer) ≡ write_in judge_view self.old r request.now bound) }
-    {
-        self.state.write(alloc, r, request, bound)
     }
 
     /// There is a node `n`.
