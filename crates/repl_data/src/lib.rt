@@ -2,6 +2,7 @@
 #![tactic(auto)]
 
 mod change;
+mod compare;
 mod csn;
 mod faults;
 mod items;
