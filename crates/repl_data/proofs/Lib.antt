@@ -19,3 +19,4 @@ pub mod Arrival
 pub mod CheckLaws
 pub mod Rows
 pub mod TextKeys
+pub mod Known

@@ -10,5 +10,6 @@ pub mod Presence
 pub mod Names
 pub mod Key
 pub mod View
+pub mod Lent
 pub mod Plain
 pub mod Closed

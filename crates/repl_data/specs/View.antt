@@ -1,5 +1,6 @@
 -- THE VIEW of a set of changes, as a value, and what is asked of it.
-use Rattle.std.specs.Prelude.{ℕ, Bool, true, false, not, ◌&&◌, List, [], ◌∷◌, ◌++◌, map, reverse, filter, find, flat_map, codes, Option, Some, None, option_map, count_by, if◌then◌else◌}
+use Rattle.std.specs.Prelude.{ℕ, Bool, true, false, not, ◌&&◌, ◌||◌, List, [], ◌∷◌, ◌++◌, map, reverse, filter, find, flat_map, codes, Option, Some, None, option_map, count_by, if◌then◌else◌}
+use Rattle.std.specs.List.{list_any}
 use Rattle.std.specs.Cmp.Lexicographic.{slice_cmp}
 use Rattle.std.specs.declared.cmp.Ordering.{Ordering}
 use Rattle.std.specs.Ordering.{ordering_then}
@@ -200,6 +201,10 @@ abbrev pub parent_of : DirectoryView → Uid → Option Uid
 parent_of v u =
     if uid_eq u suffix_id then None
     else first_of_two (option_map (λ (e : PresentEntry). e.parent) (present_at v u)) (option_map (λ (e : Tombstone). e.parent) (gone_at v u))
+
+-- the entry stands in the view, present or as a tombstone
+abbrev pub is_known_in : DirectoryView → Uid → Bool
+is_known_in v u = list_any (λ (e : PresentEntry). uid_eq e.id u) v.present || list_any (λ (e : Tombstone). uid_eq e.id u) v.gone
 
 -- the present entries, parents first and siblings in order of shown RDN key
 abbrev pub path_key : DirectoryView → PresentEntry → List (List (List ℕ × List ℕ)) × Uid

@@ -17,4 +17,4 @@ pub use csn::{Csn, CsnList, Uid, UidList};
 pub use faults::{check, weight};
 pub use items::{Bytes, BytesList, Items, NoMemory};
 pub use laws::{derived_laws, name_laws, presence_laws, view_laws};
-pub use view::View;
+pub use view::{Standing, View};
