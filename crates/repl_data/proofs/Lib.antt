@@ -20,3 +20,4 @@ pub mod CheckLaws
 pub mod Rows
 pub mod TextKeys
 pub mod Known
+pub mod Loops

@@ -1,3 +1,5 @@
+//! Which changes may be taken: `check`, and the weight of a change.
+
 ghost use Rattle.std.specs.Prelude.{◌≡◌, ◌+◌, ◌-◌, ◌*◌, ◌^◌, ◌≤◌, ◌<◌, ◌++◌, ◌==◌, nat_lt, map, Option, ℕ, Bool, not, ◌||◌, ◌&&◌, List, length, min, sum_by, IfSome, is_none, if◌then◌else◌, [], ◌∷◌, true};
 ghost use Rattle.std.specs.List.{position_from, list_any, list_all};
 ghost use Rattle.std.specs.Result.{result_err};
@@ -14,6 +16,7 @@ ghost use Rattle.repl_data.specs.Places.{first_of, earlier_of};
 use crate::change::{Attr, AttrKey, Ava, Body, Change, Malformed, Mod, ModKind, Rdn, Val};
 use crate::csn::{Csn, Uid};
 use crate::items::Bytes;
+use crate::truth::{and, or, same_bytes};
 
 /// The weight of values: exact where it fits, and else the greatest number.
 fn vals_weight(vals: &[Val]) -> u128
@@ -120,12 +123,6 @@ fn is_below(a: &Bytes, b: &Bytes) -> bool
     a.as_slice().cmp(b.as_slice()).is_lt()
 }
 
-fn same(a: &[u8], b: &[u8]) -> bool
-    ensures { result ≡ bytes_eq a.now b.now }
-{
-    a.cmp(b).is_eq()
-}
-
 /// The place of the first item whose key is not above the one before it.
 fn first_fall<T: Keyed>(items: &[T]) -> Option<usize>
     ensures { result ≡ position_from (λ b. b) 0 (falls T.key_of items.now) }
@@ -164,34 +161,22 @@ fn is_absent(place: Option<usize>) -> bool
     }
 }
 
-fn or(a: bool, b: bool) -> bool
-    ensures { result ≡ (a || b) }
-{
-    a || b
-}
-
-fn and(a: bool, b: bool) -> bool
-    ensures { result ≡ (a && b) }
-{
-    a && b
-}
-
 fn is_derived_name(attr: &AttrKey) -> bool
     ensures { result ≡ is_derived_attribute attr.now }
 {
-    let id = same(attr.name.as_slice(), b"nsuniqueid".as_slice());
-    let parent = same(attr.name.as_slice(), b"nsparentuniqueid".as_slice());
-    let conflict = same(attr.name.as_slice(), b"nsds5replconflict".as_slice());
-    let vector = same(attr.name.as_slice(), b"nsds50ruv".as_slice());
+    let id = same_bytes(attr.name.as_slice(), b"nsuniqueid".as_slice());
+    let parent = same_bytes(attr.name.as_slice(), b"nsparentuniqueid".as_slice());
+    let conflict = same_bytes(attr.name.as_slice(), b"nsds5replconflict".as_slice());
+    let vector = same_bytes(attr.name.as_slice(), b"nsds50ruv".as_slice());
     or(id, or(parent, or(conflict, vector)))
 }
 
 fn is_derived_class(attr: &AttrKey, val: &Val) -> bool
     ensures { result ≡ is_derived_value attr.now val.now }
 {
-    let class = same(attr.name.as_slice(), b"objectclass".as_slice());
-    let glue = same(val.key.as_slice(), b"glue".as_slice());
-    let tombstone = same(val.key.as_slice(), b"nstombstone".as_slice());
+    let class = same_bytes(attr.name.as_slice(), b"objectclass".as_slice());
+    let glue = same_bytes(val.key.as_slice(), b"glue".as_slice());
+    let tombstone = same_bytes(val.key.as_slice(), b"nstombstone".as_slice());
     and(class, or(glue, tombstone))
 }
 
@@ -216,13 +201,14 @@ fn is_derived(attr: &AttrKey, vals: &[Val]) -> bool
 fn has_key(vals: &[Val], key: &Bytes) -> bool
     ensures { result ≡ list_any (λ (v : Val). bytes_eq v.key key.now) vals.now }
 {
-    vals.iter().any(|v| same(v.key.as_slice(), key.as_slice()))
+    vals.iter()
+        .any(|v| same_bytes(v.key.as_slice(), key.as_slice()))
 }
 
 fn is_part_of(b: &Attr, a: &Ava) -> bool
     ensures { result ≡ (bytes_eq b.now.attr.name a.now.attr.name && list_any (λ (v : Val). bytes_eq v.key a.now.val.key) b.now.vals) }
 {
-    let named = same(b.attr.name.as_slice(), a.attr.name.as_slice());
+    let named = same_bytes(b.attr.name.as_slice(), a.attr.name.as_slice());
     and(named, has_key(b.vals.as_slice(), &a.val.key))
 }
 
