@@ -12,7 +12,7 @@ use Rattle.repl_data.specs.Closed.{is_known}
 use Rattle.repl_data.proofs.Orders.{uid_total}
 use Rattle.std.proofs.lemmas.Cmp.{tied_itself}
 use Rattle.std.specs.Ordering.{is_eq}
-use Rattle.plain_view.proofs.Known.{known_by_view}
+use Rattle.repl_data.proofs.Known.{known_by_view}
 use Rattle.repl_data.specs.Facts.{added_ids}
 use Rattle.ldap_rules.specs.declared.walk.Place.{Place}
 use Rattle.ldap_rules.specs.declared.walk.Place.TheVariants.{There, Nearest}

@@ -28,7 +28,7 @@ use Rattle.repl_data.proofs.Arrival.{first_of_entry, all_facts-added}
 use Rattle.plain_view.specs.Seen.{present_entry}
 use Rattle.plain_view.specs.Growth.{adds_entry, is_add, no_suffix, facts_alone, grown, HasRisingIds, is_among_present}
 use Rattle.plain_view.proofs.Views.{map_map}
-use Rattle.plain_view.proofs.Known.{any_map, eq_turned, either_on, known_ids}
+use Rattle.repl_data.proofs.Known.{any_map, eq_turned, either_on, known_ids}
 use Rattle.plain_view.proofs.Grown.{IsPlain, put_facts, all_put, view_plain, view_grown, entry_id}
 
 -- an add of its own id

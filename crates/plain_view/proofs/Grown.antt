@@ -19,7 +19,7 @@ use Rattle.repl_data.proofs.Sound.{neither, not_both}
 use Rattle.plain_view.specs.Seen.{present_entry, tombstone}
 use Rattle.plain_view.specs.Growth.{gives_way, stands_before, yields, joined, renamed, fresh, placed, id_of, grown, HasRisingIds, is_among_present}
 use Rattle.plain_view.proofs.Places.{insert_is}
-use Rattle.plain_view.proofs.Known.{any_map, eq_turned, either_on}
+use Rattle.repl_data.proofs.Known.{any_map, eq_turned, either_on}
 
 abbrev pub facts_id : EntryFacts → Uid
 facts_id e = e.id

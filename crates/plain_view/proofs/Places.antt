@@ -15,7 +15,7 @@ use Rattle.repl_data.specs.View.{PresentEntry}
 use Rattle.repl_data.proofs.Orders.{uid_total, split}
 use Rattle.repl_data.proofs.Sound.{neither}
 use Rattle.plain_view.specs.Growth.{yields, joined_name, joined, renamed, id_of, HasRisingIds, is_among_present}
-use Rattle.plain_view.proofs.Loops.{filter_append}
+use Rattle.repl_data.proofs.Loops.{filter_append}
 
 is_less : (o : Ordering) → is_lt o ≡ true → o ≡ Less
 is_less Less e = refl

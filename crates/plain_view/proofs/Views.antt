@@ -1,14 +1,17 @@
 -- Questions to a view, answered by loops over its entries.
 use Rattle.std.proofs.Common.{◌≡◌, ℕ, ◌+◌, ◌<◌, Bool, true, false, cond, List, [], ◌∷◌, ◌++◌, map, length, get_or, take, Some, refl, ap, sym, ◌∙◌}
-use Rattle.std.specs.Prelude.{filter, find, reverse, ◌&&◌, not, if◌then◌else◌}
+use Rattle.std.specs.Prelude.{filter, find, flat_map, reverse, ◌&&◌, not, if◌then◌else◌}
 use Rattle.std.proofs.lemmas.List.{take_more, reverse-append}
 use Rattle.std.proofs.lemmas.Grind.{reverse_onto}
 use Rattle.std.specs.declared.cmp.Ordering.{Ordering}
 use Rattle.repl_data.specs.declared.csn.Uid.{Uid}
 use Rattle.repl_data.specs.declared.change.Rdn.{Rdn}
-use Rattle.repl_data.specs.Order.{put_by, in_order_by, by_order, uid_eq, suffix_id}
-use Rattle.repl_data.specs.View.{PresentEntry, path_among}
-use Rattle.plain_view.proofs.Loops.{filter_append, map_append}
+use Rattle.repl_data.specs.Order.{in_order_by, uid_eq, suffix_id}
+use Rattle.repl_data.specs.declared.change.Attr.{Attr}
+use Rattle.repl_data.specs.declared.change.Shown.{Shown}
+use Rattle.repl_data.specs.View.{PresentEntry, path_among, user}
+use Rattle.plain_view.specs.Seen.{kept}
+use Rattle.repl_data.proofs.Loops.{filter_append, flat_map_more, map_append}
 
 module _ {X : Type 0} where
   -- the first of those that pass one test to pass another
@@ -23,20 +26,6 @@ module _ {X : Type 0} where
   -- equal orders sort alike
   pub in_order_same : (R S : X → X → Ordering) → ((a b : X) → R a b ≡ S a b) → (xs : List X) → in_order_by (λ x. x) R xs ≡ in_order_by (λ x. x) S xs
   in_order_same R S h xs = λ i. in_order_by (λ x. x) (λ a b. h a b i) xs
-
-module _ {X Y K : Type 0} (key : Y → K) (cmp : K → K → Ordering) (g : X → Y) where
-  put_by_map : (x : X) (ys : List X) → map g (put_by (λ x. key (g x)) cmp x ys) ≡ put_by key cmp (g x) (map g ys)
-  put_by_map x [] = refl
-  put_by_map x (y ∷ ys) = by (cmp (key (g x)) (key (g y))) ∙ ap (λ r. by_order (cmp (key (g x)) (key (g y))) (g x ∷ g y ∷ map g ys) (g x ∷ map g ys) (g y ∷ r)) (put_by_map x ys)
-    where
-      by : (o : Ordering) → map g (by_order o (x ∷ y ∷ ys) (x ∷ ys) (y ∷ put_by (λ x. key (g x)) cmp x ys)) ≡ by_order o (g x ∷ g y ∷ map g ys) (g x ∷ map g ys) (g y ∷ map g (put_by (λ x. key (g x)) cmp x ys))
-      by Ordering.Less = refl
-      by Ordering.Equal = refl
-      by Ordering.Greater = refl
-
-  pub in_order_map : (xs : List X) → map g (in_order_by (λ x. key (g x)) cmp xs) ≡ in_order_by key cmp (map g xs)
-  in_order_map [] = refl
-  in_order_map (x ∷ xs) = put_by_map x (in_order_by (λ x. key (g x)) cmp xs) ∙ ap (put_by key cmp (g x)) (in_order_map xs)
 
 module _ {X Y Z : Type 0} where
   pub map_map : (f : Y → Z) (g : X → Y) (xs : List X) → map f (map g xs) ≡ map (λ x. f (g x)) xs
@@ -55,6 +44,9 @@ module _ {X Y : Type 0} where
       by true = refl
       by false = refl
 
+  pub map_flat_map_more : {Z : Type 0} (g : Y → Z) (f : X → List Y) (xs : List X) (i : ℕ) (d : X) → i < length xs → map g (flat_map f (take (i + 1) xs)) ≡ map g (flat_map f (take i xs)) ++ map g (f (get_or xs i d))
+  map_flat_map_more g f xs i d l = ap (map g) (flat_map_more f xs i d l) ∙ map_append g (flat_map f (take i xs)) (f (get_or xs i d))
+
   pub reverse_map : (f : X → Y) (xs : List X) → reverse (map f xs) ≡ map f (reverse xs)
   reverse_map f [] = refl
   reverse_map f (x ∷ xs) =
@@ -72,3 +64,15 @@ step_up e up = if uid_eq e.id up then e.parent else up
 
 pub path_more : (xs : List PresentEntry) (n : ℕ) (up : Uid) (d : PresentEntry) → n < length xs → path_among (reverse (take (n + 1) xs)) up ≡ step_names (get_or xs n d) up ++ path_among (reverse (take n xs)) (step_up (get_or xs n d) up)
 path_more xs n up d l = ap (λ r. path_among (reverse r) up) (take_more xs n d l) ∙ ap (λ r. path_among r up) (reverse-append (take n xs) (get_or xs n d ∷ []))
+
+-- attributes that are kept to be shown
+pub kept_users : (attrs : List Attr) → map kept (map user attrs) ≡ attrs
+kept_users [] = refl
+kept_users (a ∷ attrs) = ap (λ r. a ∷ r) (kept_users attrs)
+
+pub users_kept : (users : List Shown) (attrs : List Attr) → users ≡ map user attrs → users ≡ map user (map kept users)
+users_kept users attrs h = h ∙ sym (ap (map user) (ap (map kept) h ∙ kept_users attrs))
+
+pub append_nil : {X : Type 0} (ys : List X) → ys ++ [] ≡ ys
+append_nil [] = refl
+append_nil (y ∷ ys) = ap (λ r. y ∷ r) (append_nil ys)

@@ -1,17 +1,17 @@
 -- What the program's own types stand for.
 use Rattle.plain_view.specs.declared.acts.Act.{Act as OwnedAct}
 use Rattle.plain_view.specs.declared.acts.Act.TheVariants.{Adds as OwnedAdds, Deletes as OwnedDeletes, Clears as OwnedClears}
-use Rattle.repl_data.specs.declared.csn.Uid.{Uid}
-use Rattle.std.specs.Prelude.{Bool, ◌&&◌, ◌||◌, not}
+use Rattle.std.specs.Prelude.{Bool, ◌&&◌, not}
 use Rattle.std.specs.List.{list_any}
-use Rattle.repl_data.specs.Order.{uid_eq}
 use Rattle.repl_data.specs.Names.{shown_rdn}
 use Rattle.repl_data.specs.Presence.{is_live}
-use Rattle.repl_data.specs.View.{DirectoryView, PresentEntry, Tombstone}
+use Rattle.repl_data.specs.View.{PresentEntry, Tombstone}
 use Rattle.std.specs.Prelude.{List}
 use Rattle.repl_data.specs.declared.change.AttrKey.{AttrKey}
 use Rattle.repl_data.specs.declared.change.Val.{Val}
 use Rattle.repl_data.specs.declared.change.Rdn.{Rdn}
+use Rattle.repl_data.specs.declared.change.Attr.{Attr}
+use Rattle.repl_data.specs.declared.change.Shown.{Shown}
 use Rattle.repl_data.specs.Facts.{EntryFacts, ValFacts, shows_before, attrs_shown}
 use Rattle.repl_data.specs.Names.{contends_with, is_before}
 use Rattle.repl_data.specs.Stamps.{Act, Adds, Deletes, Clears}
@@ -34,13 +34,13 @@ shows_first rdn t held v = not (list_any (λ w. shows_before rdn t w v) held)
 abbrev pub val_of : ValFacts → Val
 val_of v = record { key = v.key; spelled = v.spelled }
 
+-- an attribute that is kept to be shown
+abbrev pub kept : Shown → Attr
+kept s = record { attr = s.attr; vals = s.vals }
+
 -- an entry of the view, by what is known of it
 unfoldable pub present_entry : List EntryFacts → EntryFacts → PresentEntry
 present_entry present e = record { id = e.id; parent = e.parent; name = e.rdn; shown = shown_rdn present e; is_glue = not (is_live e); attrs = attrs_shown e }
 
 unfoldable pub tombstone : EntryFacts → Tombstone
 tombstone e = record { id = e.id; parent = e.parent; name = e.rdn; attrs = attrs_shown e }
-
--- the entry stands in the view, present or as a tombstone
-abbrev pub is_known_in : DirectoryView → Uid → Bool
-is_known_in v u = list_any (λ (e : PresentEntry). uid_eq e.id u) v.present || list_any (λ (e : Tombstone). uid_eq e.id u) v.gone

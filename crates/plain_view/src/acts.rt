@@ -45,7 +45,7 @@ impl Copied for Act {
 pub(crate) type ActList = Items<Act>;
 
 /// Appends an add of a value.
-#[tactic(auto, using(crate::proofs::Loops::map_append))]
+#[tactic(auto, using(repl_data::proofs::Loops::map_append))]
 fn add_value(stamp: Stamp, attr: &AttrKey, val: &Val, acts: &mut ActList) -> Result<(), NoMemory>
     ensures { OnOk result (map act_of acts.new ≡ map act_of acts.old ++ Adds stamp attr.now val.now ∷ []) }
 {
@@ -58,7 +58,7 @@ fn add_value(stamp: Stamp, attr: &AttrKey, val: &Val, acts: &mut ActList) -> Res
 }
 
 /// Appends a delete of a value.
-#[tactic(auto, using(crate::proofs::Loops::map_append))]
+#[tactic(auto, using(repl_data::proofs::Loops::map_append))]
 fn delete_value(stamp: Stamp, attr: &AttrKey, val: &Val, acts: &mut ActList) -> Result<(), NoMemory>
     ensures { OnOk result (map act_of acts.new ≡ map act_of acts.old ++ Deletes stamp attr.now val.now ∷ []) }
 {
@@ -71,7 +71,7 @@ fn delete_value(stamp: Stamp, attr: &AttrKey, val: &Val, acts: &mut ActList) -> 
 }
 
 /// Appends a delete of a whole attribute.
-#[tactic(auto, using(crate::proofs::Loops::map_append))]
+#[tactic(auto, using(repl_data::proofs::Loops::map_append))]
 fn clear(stamp: Stamp, attr: &AttrKey, acts: &mut ActList) -> Result<(), NoMemory>
     ensures { OnOk result (map act_of acts.new ≡ map act_of acts.old ++ Clears stamp attr.now ∷ []) }
 {
@@ -82,7 +82,7 @@ fn clear(stamp: Stamp, attr: &AttrKey, acts: &mut ActList) -> Result<(), NoMemor
     Ok(())
 }
 
-#[tactic(auto, using(crate::proofs::Loops::map_more))]
+#[tactic(auto, using(repl_data::proofs::Loops::map_more))]
 fn add_values(
     stamp: Stamp,
     attr: &AttrKey,
@@ -97,7 +97,7 @@ fn add_values(
     Ok(())
 }
 
-#[tactic(auto, using(crate::proofs::Loops::map_more))]
+#[tactic(auto, using(repl_data::proofs::Loops::map_more))]
 fn delete_values(
     stamp: Stamp,
     attr: &AttrKey,
@@ -142,7 +142,7 @@ fn mods_acts(csn: Csn, mods: &[Mod], acts: &mut ActList) -> Result<(), NoMemory>
     Ok(())
 }
 
-#[tactic(auto, using(crate::proofs::Loops::flat_map_more))]
+#[tactic(auto, using(repl_data::proofs::Loops::flat_map_more))]
 fn attrs_acts(csn: Csn, attrs: &[Attr], acts: &mut ActList) -> Result<(), NoMemory>
     ensures { OnOk result (map act_of acts.new ≡ map act_of acts.old ++ flat_map (λ (a : Attr). adds (stamp csn 0) a.attr a.vals) attrs.now) }
 {
@@ -153,7 +153,7 @@ fn attrs_acts(csn: Csn, attrs: &[Attr], acts: &mut ActList) -> Result<(), NoMemo
 }
 
 /// Appends an add of each part of a name.
-#[tactic(auto, using(crate::proofs::Loops::map_more))]
+#[tactic(auto, using(repl_data::proofs::Loops::map_more))]
 fn add_parts(stamp: Stamp, parts: &[Ava], acts: &mut ActList) -> Result<(), NoMemory>
     ensures { OnOk result (map act_of acts.new ≡ map act_of acts.old ++ map (λ (a : Ava). Adds stamp a.attr a.val) parts.now) }
 {
@@ -163,7 +163,7 @@ fn add_parts(stamp: Stamp, parts: &[Ava], acts: &mut ActList) -> Result<(), NoMe
     Ok(())
 }
 
-#[tactic(auto, using(crate::proofs::Loops::map_more))]
+#[tactic(auto, using(repl_data::proofs::Loops::map_more))]
 fn delete_parts(stamp: Stamp, parts: &[Ava], acts: &mut ActList) -> Result<(), NoMemory>
     ensures { OnOk result (map act_of acts.new ≡ map act_of acts.old ++ map (λ (a : Ava). Deletes stamp a.attr a.val) parts.now) }
 {
@@ -237,7 +237,7 @@ fn first_acts(alloc: Global, suffix: &Suffix, id: Uid) -> Result<ActList, NoMemo
 }
 
 /// All acts on an entry, of its own changes.
-#[tactic(auto, using(crate::proofs::Loops::flat_map_more))]
+#[tactic(auto, using(repl_data::proofs::Loops::flat_map_more))]
 pub(crate) fn acts_on(
     alloc: Global,
     suffix: &Suffix,

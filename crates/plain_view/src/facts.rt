@@ -10,11 +10,12 @@ ghost use Rattle.plain_view.specs.Seen.{act_of};
 
 use crate::acts::{Act, ActList, acts_on};
 use crate::copied::{Copied, push_copy, push_if, push_some};
-use crate::order::{greatest, in_order, latest_or, same_bytes, same_id};
+use crate::order::{greatest, latest_or, same_id};
 use crate::stamp::Stamp;
 use repl_data::{
-    AttrKey, Body, Bytes, BytesList, Change, Items, NoMemory, Rdn, Suffix, Uid, UidList,
+    AttrKey, Body, Bytes, BytesList, Change, Items, NoMemory, Rdn, Suffix, Uid, UidList, same_bytes,
 };
+use shown_entry::in_order;
 use std::alloc::Global;
 use std::marker::Model;
 
@@ -161,7 +162,7 @@ impl Act {
 }
 
 /// The keys that are named.
-#[tactic(auto, using(crate::proofs::Loops::flat_map_map_more))]
+#[tactic(auto, using(repl_data::proofs::Loops::flat_map_map_more))]
 fn keys_named(alloc: Global, acts: &[Act]) -> Result<BytesList, NoMemory>
     ensures { IfOk result (λ keys. keys ≡ flat_map keys_named (map act_of acts.now)) }
 {
@@ -173,7 +174,7 @@ fn keys_named(alloc: Global, acts: &[Act]) -> Result<BytesList, NoMemory>
 }
 
 /// The stamps and spellings that add a key.
-#[tactic(auto, using(crate::proofs::Loops::flat_map_map_more))]
+#[tactic(auto, using(repl_data::proofs::Loops::flat_map_map_more))]
 fn additions(alloc: Global, acts: &[Act], key: &Bytes) -> Result<Items<(Stamp, Bytes)>, NoMemory>
     ensures { IfOk result (λ given. given ≡ flat_map (additions key.now) (map act_of acts.now)) }
 {
@@ -185,7 +186,7 @@ fn additions(alloc: Global, acts: &[Act], key: &Bytes) -> Result<Items<(Stamp, B
 }
 
 /// The stamps that delete a key, or all.
-#[tactic(auto, using(crate::proofs::Loops::flat_map_map_more))]
+#[tactic(auto, using(repl_data::proofs::Loops::flat_map_map_more))]
 fn deletions(alloc: Global, acts: &[Act], key: &Bytes) -> Result<Items<Stamp>, NoMemory>
     ensures { IfOk result (λ stamps. stamps ≡ flat_map (deletions key.now) (map act_of acts.now)) }
 {
@@ -197,7 +198,7 @@ fn deletions(alloc: Global, acts: &[Act], key: &Bytes) -> Result<Items<Stamp>, N
 }
 
 /// The stamps that delete all.
-#[tactic(auto, using(crate::proofs::Loops::flat_map_map_more))]
+#[tactic(auto, using(repl_data::proofs::Loops::flat_map_map_more))]
 fn clearings(alloc: Global, acts: &[Act]) -> Result<Items<Stamp>, NoMemory>
     ensures { IfOk result (λ stamps. stamps ≡ flat_map clearings (map act_of acts.now)) }
 {
@@ -223,7 +224,7 @@ fn val_facts(alloc: Global, acts: &[Act], key: &Bytes) -> Result<ValFacts, NoMem
     })
 }
 
-#[tactic(auto, using(crate::proofs::Loops::map_more))]
+#[tactic(auto, using(repl_data::proofs::Loops::map_more))]
 fn vals_facts(alloc: Global, acts: &[Act], keys: &[Bytes]) -> Result<ValFactsList, NoMemory>
     ensures { IfOk result (λ vals. vals ≡ map (val_facts (map act_of acts.now)) keys.now) }
 {
@@ -236,7 +237,7 @@ fn vals_facts(alloc: Global, acts: &[Act], keys: &[Bytes]) -> Result<ValFactsLis
 }
 
 /// The acts on this attribute.
-#[tactic(auto, using(crate::proofs::Loops::filter_map_more))]
+#[tactic(auto, using(repl_data::proofs::Loops::filter_map_more))]
 fn acts_of_attr(alloc: Global, acts: &[Act], attr: &AttrKey) -> Result<ActList, NoMemory>
     ensures { IfOk result (λ own. map act_of own ≡ filter (is_act_on attr.now) (map act_of acts.now)) }
 {
@@ -262,7 +263,7 @@ fn attr_facts(alloc: Global, acts: &[Act], attr: &AttrKey) -> Result<AttrFacts, 
     })
 }
 
-#[tactic(auto, using(crate::proofs::Loops::map_map_more))]
+#[tactic(auto, using(repl_data::proofs::Loops::map_map_more))]
 fn attrs_of(alloc: Global, acts: &[Act]) -> Result<Items<AttrKey>, NoMemory>
     ensures { IfOk result (λ attrs. attrs ≡ map attr_of (map act_of acts.now)) }
 {
@@ -274,7 +275,7 @@ fn attrs_of(alloc: Global, acts: &[Act]) -> Result<Items<AttrKey>, NoMemory>
     Ok(attrs)
 }
 
-#[tactic(auto, using(crate::proofs::Loops::map_more))]
+#[tactic(auto, using(repl_data::proofs::Loops::map_more))]
 fn each_attr_facts(
     alloc: Global,
     acts: &[Act],
@@ -338,7 +339,7 @@ fn id_added(c: &Change) -> Option<Uid>
 }
 
 /// The names that changes give, each with its CSN.
-#[tactic(auto, using(crate::proofs::Loops::flat_map_more))]
+#[tactic(auto, using(repl_data::proofs::Loops::flat_map_more))]
 fn names_given(alloc: Global, own: &[Change]) -> Result<Items<(Stamp, Rdn)>, NoMemory>
     ensures { IfOk result (λ given. given ≡ flat_map (λ (c : Change). names_given c.csn c.body) own.now) }
 {
@@ -349,7 +350,7 @@ fn names_given(alloc: Global, own: &[Change]) -> Result<Items<(Stamp, Rdn)>, NoM
     Ok(given)
 }
 
-#[tactic(auto, using(crate::proofs::Loops::flat_map_more))]
+#[tactic(auto, using(repl_data::proofs::Loops::flat_map_more))]
 fn parents_given(alloc: Global, own: &[Change]) -> Result<Items<(Stamp, Uid)>, NoMemory>
     ensures { IfOk result (λ given. given ≡ flat_map (λ (c : Change). parents_given c.csn c.body) own.now) }
 {
@@ -360,7 +361,7 @@ fn parents_given(alloc: Global, own: &[Change]) -> Result<Items<(Stamp, Uid)>, N
     Ok(given)
 }
 
-#[tactic(auto, using(crate::proofs::Loops::flat_map_more))]
+#[tactic(auto, using(repl_data::proofs::Loops::flat_map_more))]
 fn deaths(alloc: Global, own: &[Change]) -> Result<Items<Stamp>, NoMemory>
     ensures { IfOk result (λ stamps. stamps ≡ flat_map (λ (c : Change). deaths c.csn c.body) own.now) }
 {
@@ -397,7 +398,7 @@ pub(crate) fn own_facts(
 }
 
 /// The changes of one entry.
-#[tactic(auto, using(crate::proofs::Loops::filter_more))]
+#[tactic(auto, using(repl_data::proofs::Loops::filter_more))]
 fn of_entry(alloc: Global, changes: &[Change], id: Uid) -> Result<Items<Change>, NoMemory>
     ensures { IfOk result (λ own. own ≡ of_entry changes.now id) }
 {
@@ -420,7 +421,7 @@ fn entry_facts(
     own_facts(alloc, suffix, id, own.as_slice())
 }
 
-#[tactic(auto, using(crate::proofs::Loops::flat_map_more))]
+#[tactic(auto, using(repl_data::proofs::Loops::flat_map_more))]
 fn added_ids(alloc: Global, changes: &[Change]) -> Result<UidList, NoMemory>
     ensures { IfOk result (λ ids. ids ≡ added_ids changes.now) }
 {
@@ -441,7 +442,7 @@ fn ids_known(alloc: Global, changes: &[Change]) -> Result<UidList, NoMemory>
     in_order(alloc, ids)
 }
 
-#[tactic(auto, using(crate::proofs::Loops::map_more))]
+#[tactic(auto, using(repl_data::proofs::Loops::map_more))]
 fn each_entry_facts(
     alloc: Global,
     suffix: &Suffix,

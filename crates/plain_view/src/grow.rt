@@ -11,11 +11,11 @@ ghost use Rattle.plain_view.specs.Growth.{is_add, no_suffix, facts_alone, gives_
 
 use crate::copied::Copied;
 use crate::facts::{EntryFacts, own_facts};
-use crate::names::{same_rdn, with_id};
-use crate::order::Ranked;
+use crate::names::same_rdn;
 use crate::rows::{PresentEntry, PresentList, shown_entry};
 use crate::view::PlainView;
 use repl_data::{Change, Items, NoMemory, Rdn, Suffix, Uid};
+use shown_entry::{Ranked, with_id};
 use std::alloc::Global;
 use std::mem;
 
@@ -72,7 +72,7 @@ impl PresentEntry {
     fn joined_name(&self, alloc: Global) -> Result<Rdn, NoMemory>
         ensures { IfOk result (λ rdn. rdn ≡ joined_name self.now) }
     {
-        with_id(alloc, self.id, &self.name.avas)
+        with_id(alloc, self.id, &self.name)
     }
 
     fn has_id_below(&self, id: Uid) -> bool

@@ -71,7 +71,7 @@ pub(crate) fn present_of(alloc: Global, entries: &[EntryFacts]) -> Result<EntryF
 }
 
 /// The entries that are not among the present ones.
-#[tactic(auto, using(crate::proofs::Loops::filter_more))]
+#[tactic(auto, using(repl_data::proofs::Loops::filter_more))]
 pub(crate) fn gone_of(
     alloc: Global,
     entries: &[EntryFacts],

@@ -1,15 +1,54 @@
+//! The entries of the view.
+
 ghost use Rattle.std.specs.Prelude.{◌≡◌, ◌&&◌, not, List, map, IfOk};
 ghost use Rattle.repl_data.specs.Order.{uid_eq, suffix_id};
-ghost use Rattle.repl_data.specs.View.{PresentEntry, Tombstone, is_shown_below, lost_name};
-ghost use Rattle.plain_view.specs.Seen.{present_entry, tombstone};
+ghost use Rattle.repl_data.specs.View.{PresentEntry, Tombstone, is_shown_below, lost_name, user};
+ghost use Rattle.repl_data.specs.Lent.{standing};
+ghost use Rattle.plain_view.specs.Seen.{kept, present_entry, tombstone};
 
 use crate::copied::Copied;
 use crate::facts::EntryFacts;
 use crate::names::same_rdn;
 use crate::order::same_id;
-use repl_data::{AttrList, Items, NoMemory, Rdn, Uid};
+use repl_data::{Items, NoMemory, Rdn, ShownList, Standing, Uid};
 use std::alloc::Global;
 use std::marker::Model;
+
+/// The user attributes of an entry, kept to be shown. Contracts see the attributes.
+#[derive(Debug, Drop)]
+pub(crate) struct UserAttrs {
+    list: ShownList,
+}
+
+impl Model for UserAttrs {
+    ghost use Rattle.std.specs.Prelude.{◌≡◌, List, map};
+    ghost use Rattle.repl_data.specs.declared.change.Attr.{Attr};
+    ghost use Rattle.repl_data.specs.View.{user};
+    ghost use Rattle.repl_data.specs.Lent.{standing};
+    ghost use Rattle.plain_view.specs.Seen.{kept};
+
+    ghost Value = { List Attr };
+
+    ghost view = { λ u. map kept u.list };
+
+    ghost invariant = { λ u. u.list ≡ map user (map kept u.list) };
+}
+
+impl UserAttrs {
+    pub(crate) fn of(list: ShownList) -> UserAttrs
+        requires { list ≡ map user (map kept list) }
+        ensures { result ≡ map kept list }
+    {
+        UserAttrs { list }
+    }
+
+    /// The attributes as they show.
+    pub(crate) fn list(&self) -> &ShownList
+        ensures { result.now ≡ map user self.now }
+    {
+        &self.list
+    }
+}
 
 /// A present entry: its name, the relative name that it shows, and the values that it shows of its
 /// own.
@@ -20,7 +59,7 @@ pub(crate) struct PresentEntry {
     pub(crate) name: Rdn,
     pub(crate) shown: Rdn,
     pub(crate) glue: bool,
-    pub(crate) attrs: AttrList,
+    pub(crate) attrs: UserAttrs,
 }
 
 impl Model for PresentEntry {
@@ -39,7 +78,7 @@ pub(crate) struct Tombstone {
     pub(crate) id: Uid,
     pub(crate) parent: Uid,
     pub(crate) name: Rdn,
-    pub(crate) attrs: AttrList,
+    pub(crate) attrs: UserAttrs,
 }
 
 impl Model for Tombstone {
@@ -77,9 +116,30 @@ impl PresentEntry {
     {
         self.glue
     }
+
+    pub(crate) fn standing(&self) -> Standing
+        ensures { result ≡ standing self.now }
+    {
+        Standing {
+            glue: self.is_glue(),
+            lost: self.lost_name(),
+        }
+    }
+
+    pub(crate) fn users(&self) -> &ShownList
+        ensures { result.now ≡ map user self.now.attrs }
+    {
+        self.attrs.list()
+    }
 }
 
 impl Tombstone {
+    pub(crate) fn users(&self) -> &ShownList
+        ensures { result.now ≡ map user self.now.attrs }
+    {
+        self.attrs.list()
+    }
+
     pub(crate) fn has_id(&self, id: Uid) -> bool
         ensures { result ≡ uid_eq self.now.id id }
     {

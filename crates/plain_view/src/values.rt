@@ -8,12 +8,16 @@ ghost use Rattle.repl_data.specs.declared.change.Attr.{Attr};
 ghost use Rattle.repl_data.specs.Order.{bytes_cmp, bytes_eq, csn_lt, csn_eq, csn_le};
 ghost use Rattle.repl_data.specs.Types.{is_among, base_name, single_valued, is_single};
 ghost use Rattle.repl_data.specs.Facts.{ValFacts, AttrFacts, EntryFacts, is_in_name, is_held, shows_before, vals_shown, with_values, attrs_shown};
+ghost use Rattle.repl_data.specs.View.{user};
 ghost use Rattle.plain_view.specs.Seen.{shows_first, val_of};
 
 use crate::copied::{Copied, push_if};
 use crate::facts::{AttrFacts, EntryFacts, ValFacts, ValFactsList};
-use crate::order::{Ranked, or, same_bytes};
-use repl_data::{Attr, AttrKey, AttrList, Ava, Bytes, Items, NoMemory, Rdn, Val, ValList};
+use crate::rows::UserAttrs;
+use repl_data::{
+    AttrKey, Ava, Bytes, Items, NoMemory, Rdn, Shown, ShownList, Val, ValList, or, same_bytes,
+};
+use shown_entry::Ranked;
 use std::alloc::Global;
 
 /// The types of which an entry shows one value.
@@ -130,7 +134,7 @@ impl ValFacts {
 }
 
 /// The values that are held.
-#[tactic(auto, using(crate::proofs::Loops::filter_more))]
+#[tactic(auto, using(repl_data::proofs::Loops::filter_more))]
 fn held(
     alloc: Global,
     rdn: &Rdn,
@@ -147,7 +151,7 @@ fn held(
 }
 
 /// The value before which no other shows.
-#[tactic(auto, using(crate::proofs::Loops::filter_more))]
+#[tactic(auto, using(repl_data::proofs::Loops::filter_more))]
 fn best(
     alloc: Global,
     rdn: &Rdn,
@@ -163,7 +167,7 @@ fn best(
     Ok(best)
 }
 
-#[tactic(auto, using(crate::proofs::Loops::map_more))]
+#[tactic(auto, using(repl_data::proofs::Loops::map_more))]
 fn vals_of(alloc: Global, facts: &[ValFacts]) -> Result<ValList, NoMemory>
     ensures { IfOk result (λ vals. vals ≡ map val_of facts.now) }
 {
@@ -208,39 +212,55 @@ fn vals_shown(
 }
 
 /// Appends the attribute, unless it has no value.
-fn push_attr(attr: &AttrKey, vals: ValList, attrs: &mut AttrList) -> Result<(), NoMemory>
-    ensures { OnOk result (attrs.new ≡ attrs.old ++ with_values attr.now vals) }
+fn push_attr(attr: &AttrKey, vals: ValList, users: &mut ShownList) -> Result<(), NoMemory>
+    ensures { OnOk result (users.new ≡ users.old ++ map user (with_values attr.now vals)) }
 {
     if !vals.is_empty() {
         let attr = attr.copied()?;
-        attrs.push(Attr { attr, vals })?;
+        users.push(Shown {
+            attr,
+            vals,
+            operational: false,
+        })?;
     }
     Ok(())
 }
 
-fn push_shown(alloc: Global, rdn: &Rdn, a: &AttrFacts, attrs: &mut AttrList) -> Result<(), NoMemory>
-    ensures { OnOk result (attrs.new ≡ attrs.old ++ with_values a.now.attr (vals_shown rdn.now a.now)) }
+fn push_shown(
+    alloc: Global,
+    rdn: &Rdn,
+    a: &AttrFacts,
+    users: &mut ShownList,
+) -> Result<(), NoMemory>
+    ensures { OnOk result (users.new ≡ users.old ++ map user (with_values a.now.attr (vals_shown rdn.now a.now))) }
 {
     let vals = vals_shown(alloc, rdn, &a.attr, a.vals.as_slice())?;
-    push_attr(&a.attr, vals, attrs)
+    push_attr(&a.attr, vals, users)
 }
 
-#[tactic(auto, using(crate::proofs::Loops::flat_map_more))]
-fn each_shown(alloc: Global, rdn: &Rdn, facts: &[AttrFacts]) -> Result<AttrList, NoMemory>
-    ensures { IfOk result (λ attrs. attrs ≡ flat_map (λ (a : AttrFacts). with_values a.attr (vals_shown rdn.now a)) facts.now) }
+#[tactic(auto, using(crate::proofs::Views::map_flat_map_more))]
+fn each_shown(alloc: Global, rdn: &Rdn, facts: &[AttrFacts]) -> Result<ShownList, NoMemory>
+    ensures { IfOk result (λ users. users ≡ map user (flat_map (λ (a : AttrFacts). with_values a.attr (vals_shown rdn.now a)) facts.now)) }
 {
-    let mut attrs = Items::new(alloc);
+    let mut users = Items::new(alloc);
     for a in facts {
-        push_shown(alloc, rdn, a, &mut attrs)?;
+        push_shown(alloc, rdn, a, &mut users)?;
     }
-    Ok(attrs)
+    Ok(users)
 }
 
 impl EntryFacts {
-    /// The attributes, without those that have no value.
-    pub(crate) fn attrs_shown(&self, alloc: Global) -> Result<AttrList, NoMemory>
-        ensures { IfOk result (λ attrs. attrs ≡ attrs_shown self.now) }
+    fn users_shown(&self, alloc: Global) -> Result<ShownList, NoMemory>
+        ensures { IfOk result (λ users. users ≡ map user (attrs_shown self.now)) }
     {
         each_shown(alloc, &self.rdn, self.attrs.as_slice())
+    }
+
+    /// The attributes, without those that have no value.
+    pub(crate) fn attrs_shown(&self, alloc: Global) -> Result<UserAttrs, NoMemory>
+        ensures { IfOk result (λ attrs. attrs ≡ attrs_shown self.now) }
+    {
+        let users = self.users_shown(alloc)?;
+        Ok(UserAttrs::of(users))
     }
 }

@@ -1,34 +1,30 @@
+//! `PlainView`: the questions to it, each answered by its definition.
+
 ghost use Rattle.std.specs.Prelude.{◌≡◌, ◌++◌, ◌∷◌, [], ◌&&◌, ◌||◌, not, codes, find, filter, map, reverse, count_by, List, Bool, IfOk, OnOk, Option, Some, None, option_map, if◌then◌else◌};
 ghost use Rattle.std.specs.Option.{option_copied};
 ghost use Rattle.std.specs.List.{list_any};
 ghost use Rattle.std.specs.Ordering.{ordering_then};
 ghost use Rattle.repl_data.specs.Order.{uid_eq, uid_cmp, suffix_id, rdn_key, rdn_key_cmp, same_rdn};
-ghost use Rattle.repl_data.specs.View.{PresentEntry, Tombstone, view_of, present_at, gone_at, is_shown_below, children_entries, child_of, children_of, path_among, path_of, dn_of, dn_below, name_of, parent_of, tombstones_of, glue_count, conflict_count, entry_of, tombstone_of, dump_of, conflicts, lost_name, naming_conflict, operational, id_val, present_shown, tombstone_shown};
+ghost use Rattle.repl_data.specs.View.{PresentEntry, Tombstone, view_of, present_at, gone_at, is_shown_below, children_entries, child_of, children_of, path_among, path_of, dn_of, dn_below, name_of, parent_of, tombstones_of, glue_count, conflict_count, entry_of, tombstone_of, dump_of, lost_name, lost_dn, is_known_in, tombstone_rdn, present_shown, tombstone_shown};
 ghost use Rattle.std.specs.Cmp.Lexicographic.{slice_cmp};
 ghost use Rattle.repl_data.specs.declared.change.Rdn.{Rdn};
-ghost use Rattle.repl_data.specs.Names.{with_id};
 ghost use Rattle.plain_view.specs.declared.view.Listed.{Listed};
 ghost use Rattle.plain_view.specs.declared.view.Child.{Child};
 ghost use Rattle.plain_view.specs.Listing.{child, listed};
-ghost use Rattle.plain_view.specs.Seen.{is_known_in};
 
 use crate::copied::Copied;
 use crate::facts::all_facts;
-use crate::names::{Compared, compare_lists, same_rdn, with_id};
-use crate::order::{Ranked, in_order, or, same_id};
+use crate::names::same_rdn;
+use crate::order::same_id;
 use crate::presence::{gone_of, present_of};
 use crate::rows::{
     PresentEntry, PresentList, Tombstone, TombstoneList, present_entries, tombstones,
 };
-use crate::shown::{
-    glue_attrs, glue_conflicts, id_val, naming_conflict, one_val, push_operational,
-    tombstone_attrs, with_operational,
-};
-use crate::text::dn_text;
 use repl_data::{
-    Bytes, Change, Items, NoMemory, Rdn, ShownEntry, ShownEntryList, ShownList, Suffix, Uid,
-    UidList, ValList, View,
+    Bytes, Change, Items, NoMemory, Rdn, Shown, ShownEntry, ShownEntryList, Standing, Suffix, Uid,
+    UidList, View, or,
 };
+use shown_entry::{Ranked, dn_text, in_order, tombstone_rdn};
 use std::alloc::Global;
 use std::cmp::Ordering;
 use std::marker::Model;
@@ -121,7 +117,7 @@ impl Ranked for Child {
 
     fn compare(&self, other: &Child) -> Ordering {
         self.shown
-            .compare_to(&other.shown)
+            .cmp(&other.shown)
             .then(self.id.compare(&other.id))
     }
 }
@@ -151,7 +147,7 @@ fn children_below(
     Ok(children)
 }
 
-#[tactic(auto, using(crate::proofs::Loops::map_more))]
+#[tactic(auto, using(repl_data::proofs::Loops::map_more))]
 fn ids_of(alloc: Global, children: &[Child]) -> Result<UidList, NoMemory>
     ensures { IfOk result (λ ids. ids ≡ map (λ (c : Child). c.id) children.now) }
 {
@@ -208,7 +204,7 @@ fn path_of(alloc: Global, present: &[PresentEntry], id: Uid) -> Result<Items<Rdn
     Ok(path)
 }
 
-#[tactic(auto, using(crate::proofs::Loops::map_more))]
+#[tactic(auto, using(repl_data::proofs::Loops::map_more))]
 fn tombstone_ids(alloc: Global, gone: &[Tombstone]) -> Result<UidList, NoMemory>
     ensures { IfOk result (λ ids. ids ≡ map (λ (e : Tombstone). e.id) gone.now) }
 {
@@ -226,17 +222,22 @@ struct Listed {
     shown: ShownEntry,
 }
 
+fn compare_paths(a: &[Rdn], b: &[Rdn]) -> Ordering
+    ensures { result ≡ slice_cmp (λ (x : Rdn) (y : Rdn). rdn_key_cmp (rdn_key x) (rdn_key y)) a.now b.now }
+{
+    a.cmp(b)
+}
+
 impl Ranked for Listed {
     ghost order = { λ a b. ordering_then (slice_cmp (λ (x : Rdn) (y : Rdn). rdn_key_cmp (rdn_key x) (rdn_key y)) a.path b.path) (uid_cmp a.shown.id b.shown.id) };
 
     fn compare(&self, other: &Listed) -> Ordering {
-        compare_lists(self.path.as_slice(), other.path.as_slice()).then(
-            self.shown.id.compare(&other.shown.id),
-        )
+        let paths = compare_paths(self.path.as_slice(), other.path.as_slice());
+        paths.then(self.shown.id.compare(&other.shown.id))
     }
 }
 
-#[tactic(auto, using(crate::proofs::Loops::map_more))]
+#[tactic(auto, using(repl_data::proofs::Loops::map_more))]
 fn entries_of(alloc: Global, listed: &[Listed]) -> Result<ShownEntryList, NoMemory>
     ensures { IfOk result (λ entries. entries ≡ map (λ (l : Listed). l.shown) listed.now) }
 {
@@ -295,7 +296,7 @@ impl PlainView {
         ensures { IfOk result (λ dn. dn ≡ dn_of self.now id) }
     {
         let path = path_of(alloc, self.present.as_slice(), id)?;
-        let dn = dn_text(alloc, &self.suffix, path.as_slice())?;
+        let dn = dn_text(alloc, self.suffix.as_slice(), path.as_slice())?;
         Ok(dn)
     }
 
@@ -307,76 +308,37 @@ impl PlainView {
         path.push(e.name.copied()?)?;
         let above = path_of(alloc, self.present.as_slice(), e.parent)?;
         path.append(above)?;
-        let dn = dn_text(alloc, &self.suffix, path.as_slice())?;
+        let dn = dn_text(alloc, self.suffix.as_slice(), path.as_slice())?;
         Ok(dn)
     }
 
-    fn lost_conflicts(&self, alloc: Global, e: &PresentEntry) -> Result<ValList, NoMemory>
-        ensures { IfOk result (λ vals. vals ≡ (if lost_name e.now then naming_conflict (dn_below self.now (e.now.name ∷ path_of self.now e.now.parent)) ∷ [] else [])) }
+    /// The name that an entry lost.
+    fn lost_dn(&self, alloc: Global, e: &PresentEntry) -> Result<Option<Bytes>, NoMemory>
+        ensures { IfOk result (λ dn. dn ≡ lost_dn self.now e.now) }
     {
         if e.lost_name() {
             let dn = self.contested_dn(alloc, e)?;
-            let conflict = naming_conflict(alloc, &dn)?;
-            one_val(alloc, conflict)
+            Ok(Some(dn))
         } else {
-            Ok(Items::new(alloc))
+            Ok(None)
         }
-    }
-
-    /// The values of `nsds5replconflict`.
-    fn conflicts(&self, alloc: Global, e: &PresentEntry) -> Result<ValList, NoMemory>
-        ensures { IfOk result (λ vals. vals ≡ conflicts self.now e.now) }
-    {
-        let mut vals = glue_conflicts(alloc, e.is_glue())?;
-        let lost = self.lost_conflicts(alloc, e)?;
-        vals.append(lost)?;
-        Ok(vals)
-    }
-
-    /// The operational attributes of a present entry.
-    fn present_own(&self, alloc: Global, e: &PresentEntry) -> Result<ShownList, NoMemory>
-        ensures { IfOk result (λ own. own ≡ operational (codes "nsuniqueid") (id_val e.now.id ∷ []) ++ operational (codes "nsds5replconflict") (conflicts self.now e.now)) }
-    {
-        let mut own = Items::new(alloc);
-        let id = one_val(alloc, id_val(alloc, e.id)?)?;
-        push_operational(alloc, b"nsuniqueid".as_slice(), id, &mut own)?;
-        let conflicts = self.conflicts(alloc, e)?;
-        push_operational(alloc, b"nsds5replconflict".as_slice(), conflicts, &mut own)?;
-        Ok(own)
     }
 
     /// A present entry, as it shows.
     fn present_shown(&self, alloc: Global, e: &PresentEntry) -> Result<ShownEntry, NoMemory>
         ensures { IfOk result (λ shown. shown ≡ present_shown self.now e.now) }
     {
-        let own = self.present_own(alloc, e)?;
-        let users = glue_attrs(alloc, e.is_glue(), &e.attrs)?;
-        let attrs = with_operational(alloc, own, &users)?;
         let dn = self.dn(alloc, e.id)?;
-        Ok(ShownEntry {
-            id: e.id,
-            dn,
-            attrs,
-        })
-    }
-
-    fn tombstone_own(&self, alloc: Global, e: &Tombstone) -> Result<ShownList, NoMemory>
-        ensures { IfOk result (λ own. own ≡ operational (codes "nsuniqueid") (id_val e.now.id ∷ []) ++ operational (codes "nsparentuniqueid") (id_val e.now.parent ∷ [])) }
-    {
-        let mut own = Items::new(alloc);
-        let id = one_val(alloc, id_val(alloc, e.id)?)?;
-        push_operational(alloc, b"nsuniqueid".as_slice(), id, &mut own)?;
-        let parent = one_val(alloc, id_val(alloc, e.parent)?)?;
-        push_operational(alloc, b"nsparentuniqueid".as_slice(), parent, &mut own)?;
-        Ok(own)
+        let lost = self.lost_dn(alloc, e)?;
+        shown_entry::present_shown(alloc, e.id, dn, e.is_glue(), lost, e.users())
     }
 
     fn tombstone_dn(&self, alloc: Global, id: Uid) -> Result<Bytes, NoMemory>
-        ensures { IfOk result (λ dn. dn ≡ dn_below self.now (with_id id (record { avas = [] }) ∷ [])) }
+        ensures { IfOk result (λ dn. dn ≡ dn_below self.now (tombstone_rdn id ∷ [])) }
     {
         let mut path = Items::new(alloc);
-        path.push(with_id(alloc, id, &Items::new(alloc))?)?;
-        let dn = dn_text(alloc, &self.suffix, path.as_slice())?;
+        path.push(tombstone_rdn(alloc, id)?)?;
+        let dn = dn_text(alloc, self.suffix.as_slice(), path.as_slice())?;
         Ok(dn)
     }
 
@@ -384,15 +346,8 @@ impl PlainView {
     fn tombstone_shown(&self, alloc: Global, e: &Tombstone) -> Result<ShownEntry, NoMemory>
         ensures { IfOk result (λ shown. shown ≡ tombstone_shown self.now e.now) }
     {
-        let own = self.tombstone_own(alloc, e)?;
-        let users = tombstone_attrs(alloc, &e.attrs)?;
-        let attrs = with_operational(alloc, own, &users)?;
         let dn = self.tombstone_dn(alloc, e.id)?;
-        Ok(ShownEntry {
-            id: e.id,
-            dn,
-            attrs,
-        })
+        shown_entry::tombstone_shown(alloc, e.id, dn, e.parent, e.users())
     }
 
     /// A present entry, as it is listed.
@@ -438,6 +393,10 @@ impl PlainView {
 
 impl View for PlainView {
     ghost view = { λ v. v };
+
+    fn suffix_name(&self) -> &[u8] {
+        self.suffix.as_slice()
+    }
 
     fn root(&self) -> Uid {
         Uid::SUFFIX
@@ -495,6 +454,22 @@ impl View for PlainView {
                 Some(e) => Some(e.parent),
                 None => None,
             },
+        }
+    }
+
+    /// Takes time in proportion to the present entries.
+    fn own(&self, id: Uid) -> Option<&[Shown]> {
+        match present_at(self.present.as_slice(), id) {
+            Some(e) => Some(e.users().as_slice()),
+            None => None,
+        }
+    }
+
+    /// Takes time in proportion to the present entries.
+    fn standing(&self, id: Uid) -> Option<Standing> {
+        match present_at(self.present.as_slice(), id) {
+            Some(e) => Some(e.standing()),
+            None => None,
         }
     }
 }

@@ -19,3 +19,5 @@ pub mod Arrival
 pub mod CheckLaws
 pub mod Rows
 pub mod TextKeys
+pub mod Known
+pub mod Loops

@@ -1,4 +1,5 @@
 pub mod Order
+pub mod Ranks
 pub mod Text
 pub mod Types
 pub mod Places
@@ -9,5 +10,6 @@ pub mod Presence
 pub mod Names
 pub mod Key
 pub mod View
+pub mod Lent
 pub mod Plain
 pub mod Closed

@@ -74,6 +74,9 @@ abbrev pub latest_or : {X : Type 0} → Csn × X → List (Csn × X) → Csn × 
 latest_or = foldr later
 
 -- an RDN's key: its attributes, each with the key of its value
+abbrev pub part_key : Ava → List ℕ × List ℕ
+part_key a = (a.attr.name, a.val.key)
+
 abbrev pub rdn_key : Rdn → List (List ℕ × List ℕ)
 rdn_key rdn = map (λ (a : Ava). (a.attr.name, a.val.key)) rdn.avas
 
@@ -85,6 +88,9 @@ rdn_key_cmp = slice_cmp part_cmp
 
 abbrev pub same_rdn : Rdn → Rdn → Bool
 same_rdn a b = eq_by_cmp rdn_key_cmp (rdn_key a) (rdn_key b)
+
+abbrev pub same_part : Ava → Ava → Bool
+same_part a b = eq_by_cmp part_cmp (part_key a) (part_key b)
 
 -- one of three, by a comparison
 abbrev pub by_order : {X : Type 0} → Ordering → X → X → X → X

@@ -1,5 +1,6 @@
 -- THE VIEW of a set of changes, as a value, and what is asked of it.
-use Rattle.std.specs.Prelude.{ℕ, Bool, true, false, not, ◌&&◌, List, [], ◌∷◌, ◌++◌, map, reverse, filter, find, flat_map, codes, Option, Some, None, option_map, count_by, if◌then◌else◌}
+use Rattle.std.specs.Prelude.{ℕ, Bool, true, false, not, ◌&&◌, ◌||◌, List, [], ◌∷◌, ◌++◌, map, reverse, filter, find, flat_map, codes, Option, Some, None, option_map, count_by, if◌then◌else◌}
+use Rattle.std.specs.List.{list_any}
 use Rattle.std.specs.Cmp.Lexicographic.{slice_cmp}
 use Rattle.std.specs.declared.cmp.Ordering.{Ordering}
 use Rattle.std.specs.Ordering.{ordering_then}
@@ -140,11 +141,17 @@ with_class class attrs =
 abbrev pub lost_name : PresentEntry → Bool
 lost_name e = not (same_rdn e.name e.shown)
 
--- the values of `nsds5replconflict`, by key
-abbrev pub conflicts : DirectoryView → PresentEntry → List Val
-conflicts v e =
-    (if e.is_glue then glue_conflict ∷ [] else [])
-    ++ (if lost_name e then naming_conflict (dn_below v (e.name ∷ path_of v e.parent)) ∷ [] else [])
+-- the printed name that an entry lost
+abbrev pub lost_dn : DirectoryView → PresentEntry → Option (List ℕ)
+lost_dn v e = if lost_name e then Some (dn_below v (e.name ∷ path_of v e.parent)) else None
+
+-- the values of `nsds5replconflict`, by key: of glue, and of an entry that lost this name
+abbrev pub naming_conflicts : Option (List ℕ) → List Val
+naming_conflicts None = []
+naming_conflicts (Some dn) = naming_conflict dn ∷ []
+
+abbrev pub conflicts : Bool → Option (List ℕ) → List Val
+conflicts glue lost = (if glue then glue_conflict ∷ [] else []) ++ naming_conflicts lost
 
 abbrev pub user : Attr → Shown
 user a = record { attr = a.attr; vals = a.vals; operational = false }
@@ -156,27 +163,37 @@ operational name (v ∷ vals) = record { attr = key_named name; vals = v ∷ val
 abbrev pub with_operational : List Shown → List Attr → List Shown
 with_operational own attrs = in_order_by (λ (s : Shown). s.attr.name) bytes_cmp (own ++ map user attrs)
 
--- a present entry as it shows
-abbrev pub present_shown : DirectoryView → PresentEntry → ShownEntry
-present_shown v e = record {
-  id = e.id;
-  dn = dn_of v e.id;
+-- a present entry as it shows: by its id, its printed name, whether it is glue, the name that it lost, and
+-- its own values
+abbrev pub shown_present : Uid → List ℕ → Bool → Option (List ℕ) → List Attr → ShownEntry
+shown_present id dn glue lost attrs = record {
+  id = id;
+  dn = dn;
   attrs =
       with_operational
-      (operational (codes "nsuniqueid") (id_val e.id ∷ []) ++ operational (codes "nsds5replconflict") (conflicts v e))
-      (if e.is_glue then with_class glue_class e.attrs else e.attrs);
+      (operational (codes "nsuniqueid") (id_val id ∷ []) ++ operational (codes "nsds5replconflict") (conflicts glue lost))
+      (if glue then with_class glue_class attrs else attrs);
 }
 
+abbrev pub present_shown : DirectoryView → PresentEntry → ShownEntry
+present_shown v e = shown_present e.id (dn_of v e.id) e.is_glue (lost_dn v e) e.attrs
+
 -- a tombstone as it shows: by its id, directly below the suffix
-abbrev pub tombstone_shown : DirectoryView → Tombstone → ShownEntry
-tombstone_shown v e = record {
-  id = e.id;
-  dn = dn_below v (with_id e.id (record { avas = [] }) ∷ []);
+abbrev pub tombstone_rdn : Uid → Rdn
+tombstone_rdn u = with_id u (record { avas = [] })
+
+abbrev pub shown_gone : Uid → List ℕ → Uid → List Attr → ShownEntry
+shown_gone id dn parent attrs = record {
+  id = id;
+  dn = dn;
   attrs =
       with_operational
-      (operational (codes "nsuniqueid") (id_val e.id ∷ []) ++ operational (codes "nsparentuniqueid") (id_val e.parent ∷ []))
-      (with_class tombstone_class e.attrs);
+      (operational (codes "nsuniqueid") (id_val id ∷ []) ++ operational (codes "nsparentuniqueid") (id_val parent ∷ []))
+      (with_class tombstone_class attrs);
 }
+
+abbrev pub tombstone_shown : DirectoryView → Tombstone → ShownEntry
+tombstone_shown v e = shown_gone e.id (dn_below v (tombstone_rdn e.id ∷ [])) e.parent e.attrs
 
 abbrev pub entry_of : DirectoryView → Uid → Option ShownEntry
 entry_of v u = option_map (present_shown v) (present_at v u)
@@ -200,6 +217,10 @@ abbrev pub parent_of : DirectoryView → Uid → Option Uid
 parent_of v u =
     if uid_eq u suffix_id then None
     else first_of_two (option_map (λ (e : PresentEntry). e.parent) (present_at v u)) (option_map (λ (e : Tombstone). e.parent) (gone_at v u))
+
+-- the entry stands in the view, present or as a tombstone
+abbrev pub is_known_in : DirectoryView → Uid → Bool
+is_known_in v u = list_any (λ (e : PresentEntry). uid_eq e.id u) v.present || list_any (λ (e : Tombstone). uid_eq e.id u) v.gone
 
 -- the present entries, parents first and siblings in order of shown RDN key
 abbrev pub path_key : DirectoryView → PresentEntry → List (List (List ℕ × List ℕ)) × Uid

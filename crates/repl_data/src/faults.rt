@@ -1,3 +1,5 @@
+//! Which changes may be taken: `check`, and the weight of a change.
+
 ghost use Rattle.std.specs.Prelude.{◌≡◌, ◌+◌, ◌-◌, ◌*◌, ◌^◌, ◌≤◌, ◌<◌, ◌++◌, ◌==◌, nat_lt, map, Option, ℕ, Bool, not, ◌||◌, ◌&&◌, List, length, min, sum_by, IfSome, is_none, if◌then◌else◌, [], ◌∷◌, true};
 ghost use Rattle.std.specs.List.{position_from, list_any, list_all};
 ghost use Rattle.std.specs.Result.{result_err};
@@ -14,6 +16,7 @@ ghost use Rattle.repl_data.specs.Places.{first_of, earlier_of};
 use crate::change::{Attr, AttrKey, Ava, Body, Change, Malformed, Mod, ModKind, Rdn, Val};
 use crate::csn::{Csn, Uid};
 use crate::items::Bytes;
+use crate::truth::{and, or, same_bytes};
 
 /// The weight of values: exact where it fits, and else the greatest number.
 fn vals_weight(vals: &[Val]) -> u128
@@ -120,12 +123,6 @@ fn is_below(a: &Bytes, b: &Bytes) -> bool
     a.as_slice().cmp(b.as_slice()).is_lt()
 }
 
-fn same(a: &[u8], b: &[u8]) -> bool
-    ensures { result ≡ bytes_eq a.now b.now }
-{
-    a.cmp(b).is_eq()
-}
-
 /// The place of the first item whose key is not above the one before it.
 fn first_fall<T: Keyed>(items: &[T]) -> Option<usize>
     ensures { result ≡ position_from (λ b. b) 0 (falls T.key_of items.now) }
@@ -164,34 +161,22 @@ fn is_absent(place: Option<usize>) -> bool
     }
 }
 
-fn or(a: bool, b: bool) -> bool
-    ensures { result ≡ (a || b) }
-{
-    a || b
-}
-
-fn and(a: bool, b: bool) -> bool
-    ensures { result ≡ (a && b) }
-{
-    a && b
-}
-
 fn is_derived_name(attr: &AttrKey) -> bool
     ensures { result ≡ is_derived_attribute attr.now }
 {
-    let id = same(attr.name.as_slice(), b"nsuniqueid".as_slice());
-    let parent = same(attr.name.as_slice(), b"nsparentuniqueid".as_slice());
-    let conflict = same(attr.name.as_slice(), b"nsds5replconflict".as_slice());
-    let vector = same(attr.name.as_slice(), b"nsds50ruv".as_slice());
+    let id = same_bytes(attr.name.as_slice(), b"nsuniqueid".as_slice());
+    let parent = same_bytes(attr.name.as_slice(), b"nsparentuniqueid".as_slice());
+    let conflict = same_bytes(attr.name.as_slice(), b"nsds5replconflict".as_slice());
+    let vector = same_bytes(attr.name.as_slice(), b"nsds50ruv".as_slice());
     or(id, or(parent, or(conflict, vector)))
 }
 
 fn is_derived_class(attr: &AttrKey, val: &Val) -> bool
     ensures { result ≡ is_derived_value attr.now val.now }
 {
-    let class = same(attr.name.as_slice(), b"objectclass".as_slice());
-    let glue = same(val.key.as_slice(), b"glue".as_slice());
-    let tombstone = same(val.key.as_slice(), b"nstombstone".as_slice());
+    let class = same_bytes(attr.name.as_slice(), b"objectclass".as_slice());
+    let glue = same_bytes(val.key.as_slice(), b"glue".as_slice());
+    let tombstone = same_bytes(val.key.as_slice(), b"nstombstone".as_slice());
     and(class, or(glue, tombstone))
 }
 
@@ -216,13 +201,14 @@ fn is_derived(attr: &AttrKey, vals: &[Val]) -> bool
 fn has_key(vals: &[Val], key: &Bytes) -> bool
     ensures { result ≡ list_any (λ (v : Val). bytes_eq v.key key.now) vals.now }
 {
-    vals.iter().any(|v| same(v.key.as_slice(), key.as_slice()))
+    vals.iter()
+        .any(|v| same_bytes(v.key.as_slice(), key.as_slice()))
 }
 
 fn is_part_of(b: &Attr, a: &Ava) -> bool
     ensures { result ≡ (bytes_eq b.now.attr.name a.now.attr.name && list_any (λ (v : Val). bytes_eq v.key a.now.val.key) b.now.vals) }
 {
-    let named = same(b.attr.name.as_slice(), a.attr.name.as_slice());
+    let named = same_bytes(b.attr.name.as_slice(), a.attr.name.as_slice());
     and(named, has_key(b.vals.as_slice(), &a.val.key))
 }
 
@@ -548,206 +534,5 @@ pub fn check(change: &Change) -> Result<(), Malformed>
     match fault(change) {
         Some(why) => Err(why),
         None => Ok(()),
-    }
-}
-
-#[cfg(test)]
-mod tests {
-    use super::*;
-    use crate::change::{AttrList, AvaList, ModList, ValList};
-    use crate::items::{Items, NoMemory};
-    use std::alloc::Global;
-    use std::test::Fail;
-
-    const C: Csn = Csn {
-        time: 100,
-        seq: 0,
-        rid: 1,
-        sub: 0,
-    };
-
-    const BEFORE: Uid = Uid {
-        csn: Csn { time: 99, ..C },
-    };
-
-    fn attr_key(alloc: Global, name: &[u8]) -> Result<AttrKey, NoMemory> {
-        let name = Items::from_slice(alloc, name)?;
-        Ok(AttrKey { name })
-    }
-
-    fn vals(alloc: Global, texts: &[&[u8]]) -> Result<ValList, NoMemory> {
-        let mut list = Items::new(alloc);
-        for text in texts {
-            let key = Items::from_slice(alloc, text)?;
-            let spelled = Items::from_slice(alloc, text)?;
-            list.push(Val { key, spelled })?;
-        }
-        Ok(list)
-    }
-
-    fn parts(alloc: Global, names: &[&[u8]]) -> Result<AvaList, NoMemory> {
-        let mut list = Items::new(alloc);
-        for name in names {
-            let attr = attr_key(alloc, name)?;
-            let key = Items::from_slice(alloc, b"a".as_slice())?;
-            let spelled = Items::from_slice(alloc, b"a".as_slice())?;
-            let val = Val { key, spelled };
-            list.push(Ava { attr, val })?;
-        }
-        Ok(list)
-    }
-
-    /// Attributes of these names, each with the value `a`.
-    fn attrs(alloc: Global, names: &[&[u8]]) -> Result<AttrList, NoMemory> {
-        let mut list = Items::new(alloc);
-        for name in names {
-            let attr = attr_key(alloc, name)?;
-            let vals = vals(alloc, [b"a".as_slice()].as_slice())?;
-            list.push(Attr { attr, vals })?;
-        }
-        Ok(list)
-    }
-
-    fn add(parent: Uid, avas: AvaList, attrs: AttrList) -> Body {
-        Body::Add {
-            parent,
-            rdn: Rdn { avas },
-            attrs,
-        }
-    }
-
-    fn modify(alloc: Global, kind: ModKind, values: ValList) -> Result<Body, NoMemory> {
-        let mut mods: ModList = Items::new(alloc);
-        let attr = attr_key(alloc, b"description".as_slice())?;
-        mods.push(Mod {
-            kind: ModKind::Delete,
-            attr: attr.clone()?,
-            vals: Items::new(alloc),
-        })?;
-        mods.push(Mod {
-            kind,
-            attr,
-            vals: values,
-        })?;
-        Ok(Body::Mod { mods })
-    }
-
-    fn told(csn: Csn, target: Uid, body: Body) -> Option<Malformed> {
-        check(&Change { csn, target, body }).err()
-    }
-
-    #[test]
-    fn the_frame_of_a_change_is_looked_at_first(rt: HostRuntime) {
-        let no_rid = Csn { rid: 0, ..C };
-        let last_rid = Csn { rid: 65535, ..C };
-        assert_eq!(rt; told(no_rid, Uid::SUFFIX, Body::Del), Some(Malformed::Rid));
-        assert_eq!(rt;
-            told(last_rid, Uid { csn: C }, Body::Del),
-            Some(Malformed::Rid)
-        );
-        assert_eq!(rt;
-            told(C.part(1), Uid { csn: C }, Body::Del),
-            Some(Malformed::Sub)
-        );
-        assert_eq!(rt; told(C, Uid { csn: C }, Body::Del), Some(Malformed::Order));
-        assert_eq!(rt; told(C, Uid::SUFFIX, Body::Del), Some(Malformed::Root));
-        assert_eq!(rt; told(C, BEFORE, Body::Del), None);
-    }
-
-    #[test]
-    fn an_add_tells_its_first_fault_with_its_place(rt: HostRuntime) -> Result<(), Fail> {
-        let m = rt.alloc();
-        let own = Uid { csn: C };
-        let ou = [b"ou".as_slice()];
-        let both = [b"cn".as_slice(), b"ou".as_slice()];
-        let turned = [b"ou".as_slice(), b"cn".as_slice()];
-        let id = [b"nsuniqueid".as_slice(), b"ou".as_slice()];
-        let none: [&[u8]; 0] = [];
-        let body = add(BEFORE, parts(m, ou.as_slice())?, attrs(m, both.as_slice())?);
-        assert_eq!(rt; told(C, own, body), None);
-        let body = add(BEFORE, parts(m, ou.as_slice())?, attrs(m, both.as_slice())?);
-        assert_eq!(rt; told(C, BEFORE, body), Some(Malformed::Order));
-        let body = add(own, parts(m, ou.as_slice())?, attrs(m, both.as_slice())?);
-        assert_eq!(rt; told(C, own, body), Some(Malformed::Order));
-        let body = add(
-            BEFORE,
-            parts(m, none.as_slice())?,
-            attrs(m, both.as_slice())?,
-        );
-        assert_eq!(rt; told(C, own, body), Some(Malformed::Empty { place: 0 }));
-        let body = add(
-            BEFORE,
-            parts(m, ou.as_slice())?,
-            attrs(m, turned.as_slice())?,
-        );
-        assert_eq!(rt; told(C, own, body), Some(Malformed::DoubleKey { place: 2 }));
-        let body = add(BEFORE, parts(m, both.as_slice())?, attrs(m, id.as_slice())?);
-        assert_eq!(rt; told(C, own, body), Some(Malformed::Derived { place: 2 }));
-        let body = add(BEFORE, parts(m, both.as_slice())?, attrs(m, ou.as_slice())?);
-        assert_eq!(rt; told(C, own, body), Some(Malformed::NameValue));
-        Ok(())
-    }
-
-    #[test]
-    fn a_modify_and_a_rename_tell_their_places(rt: HostRuntime) -> Result<(), Fail> {
-        let m = rt.alloc();
-        let two = [b"b".as_slice(), b"a".as_slice()];
-        let no_mods = Body::Mod {
-            mods: Items::new(m),
-        };
-        assert_eq!(rt;
-            told(C, BEFORE, no_mods),
-            Some(Malformed::Empty { place: 0 })
-        );
-        let body = modify(m, ModKind::Add, Items::new(m))?;
-        assert_eq!(rt; told(C, BEFORE, body), Some(Malformed::Empty { place: 1 }));
-        let body = modify(m, ModKind::Replace, Items::new(m))?;
-        assert_eq!(rt; told(C, BEFORE, body), None);
-        let body = modify(m, ModKind::Add, vals(m, two.as_slice())?)?;
-        assert_eq!(rt;
-            told(C, BEFORE, body),
-            Some(Malformed::DoubleKey { place: 1 })
-        );
-        let id = [b"nsuniqueid".as_slice()];
-        let body = Body::Ren {
-            rdn: Rdn {
-                avas: parts(m, [b"ou".as_slice()].as_slice())?,
-            },
-            dropped: parts(m, id.as_slice())?,
-        };
-        assert_eq!(rt;
-            told(C, BEFORE, body),
-            Some(Malformed::Derived { place: 1 })
-        );
-        Ok(())
-    }
-
-    #[test]
-    fn a_body_has_a_greatest_weight_and_a_greatest_count(rt: HostRuntime) -> Result<(), Fail> {
-        let m = rt.alloc();
-        let mut mods: ModList = Items::new(m);
-        let mut text = Items::new(m);
-        for _ in 0..2_096_522 {
-            text.push(b'x')?;
-        }
-        let heavy = modify(m, ModKind::Replace, vals(m, [text.as_slice()].as_slice())?)?;
-        assert_eq!(rt; weight(&heavy), 2_097_152);
-        assert_eq!(rt; told(C, BEFORE, heavy), None);
-        text.push(b'x')?;
-        let heavy = modify(m, ModKind::Replace, vals(m, [text.as_slice()].as_slice())?)?;
-        assert_eq!(rt; told(C, BEFORE, heavy), Some(Malformed::TooHeavy));
-        for _ in 0..1001 {
-            let attr = attr_key(m, b"sn".as_slice())?;
-            mods.push(Mod {
-                kind: ModKind::Delete,
-                attr,
-                vals: Items::new(m),
-            })?;
-        }
-        assert_eq!(rt;
-            told(C, BEFORE, Body::Mod { mods }),
-            Some(Malformed::TooMany)
-        );
-        Ok(())
     }
 }

@@ -178,30 +178,3 @@ impl<T: Drop> Items<T> {
         self.inner.clear();
     }
 }
-
-#[cfg(test)]
-mod tests {
-    use super::*;
-    use std::test::Fail;
-
-    #[test]
-    fn elements_come_and_go(rt: HostRuntime) -> Result<(), Fail> {
-        let mut bytes = Bytes::from_slice(rt.alloc(), b"ab".as_slice())?;
-        bytes.push(b'c')?;
-        bytes.extend_from_slice(b"de".as_slice())?;
-        assert_eq!(rt; bytes.as_slice(), b"abcde".as_slice());
-        assert_eq!(rt; bytes.get(2).copied(), Some(b'c'));
-        let copy = bytes.clone()?;
-        bytes.clear();
-        assert!(rt; bytes.is_empty());
-        let mut list = Items::from_vec(copy.into_vec());
-        assert_eq!(rt; list.len(), 5);
-        list.insert(0, b'z')?;
-        assert!(rt; list.len() > 2);
-        list.set(1, b'y');
-        assert_eq!(rt; list.remove(2), b'b');
-        list.append(Bytes::from_slice(rt.alloc(), b"fg".as_slice())?)?;
-        assert_eq!(rt; list.as_slice(), b"zycdefg".as_slice());
-        Ok(())
-    }
-}

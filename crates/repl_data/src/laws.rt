@@ -1,3 +1,5 @@
+//! What holds of every set of changes, for who asks.
+
 ghost use Rattle.std.specs.Prelude.{◌≡◌, ◌||◌, ℕ, Bool, true, false, List, [], ◌∷◌, ◌++◌, IsTrue, map, filter};
 ghost use Rattle.std.specs.List.{AllByRecursion, list_all, list_any};
 ghost use Rattle.repl_data.specs.declared.csn.Uid.{Uid};
@@ -6,13 +8,13 @@ ghost use Rattle.repl_data.specs.declared.change.Suffix.{Suffix};
 ghost use Rattle.repl_data.specs.Order.{uid_cmp, rdn_key};
 ghost use Rattle.repl_data.specs.Text.{IsInRange};
 ghost use Rattle.repl_data.specs.Stamps.{of_entry};
-ghost use Rattle.repl_data.specs.Closed.{IsClosed, IsArrival, IsIn, SameChanges, all_differ, is_sound};
+ghost use Rattle.repl_data.specs.Closed.{IsClosed, IsArrival, IsIn, SameChanges, all_differ, is_sound, is_known};
 ghost use Rattle.repl_data.specs.Facts.{EntryFacts, all_facts, own_facts};
 ghost use Rattle.repl_data.specs.Presence.{is_live, is_child, present_of, HasParentBelow, ObeysRule, is_present_in, StandsIn};
 ghost use Rattle.repl_data.specs.Names.{has_id, shown_rdn};
 ghost use Rattle.repl_data.specs.Order.{put_by};
 ghost use Rattle.repl_data.specs.Key.{text_key};
-ghost use Rattle.repl_data.specs.View.{view_of, glue_class, tombstone_class, glue_conflict, naming_conflict, id_val};
+ghost use Rattle.repl_data.specs.View.{view_of, is_known_in, glue_class, tombstone_class, glue_conflict, naming_conflict, id_val};
 
 /// The view of a set of changes does not depend on the list that spells it.
 pub fn view_laws()
@@ -33,6 +35,10 @@ pub fn view_laws()
 
     // An Add is the first change of its entry.
     ensures added { (xs : List Change) (c : Change) → IsArrival (xs ++ c ∷ []) → c.target.csn ≡ c.csn → of_entry xs c.target ≡ [] }
+
+    // An entry stands in the view, present or as a tombstone, exactly if the changes add it, or if it is the
+    // suffix entry.
+    ensures known { (suffix : Suffix) (xs : List Change) (u : Uid) → is_known_in (view_of suffix xs) u ≡ is_known xs u }
 {}
 
 /// Presence is well founded, and the one solution of its rule.

@@ -2,10 +2,12 @@
 #![tactic(auto)]
 
 mod change;
+mod compare;
 mod csn;
 mod faults;
 mod items;
 mod laws;
+mod truth;
 mod view;
 
 pub use change::{
@@ -16,4 +18,5 @@ pub use csn::{Csn, CsnList, Uid, UidList};
 pub use faults::{check, weight};
 pub use items::{Bytes, BytesList, Items, NoMemory};
 pub use laws::{derived_laws, name_laws, presence_laws, view_laws};
-pub use view::View;
+pub use truth::{and, or, same_bytes};
+pub use view::{Standing, View};

@@ -1,17 +1,33 @@
+//! What is asked of a view, however it is kept.
+
 ghost use Rattle.std.specs.Prelude.{◌≡◌, IfOk};
 ghost use Rattle.std.specs.Option.{option_copied};
 ghost use Rattle.repl_data.specs.Order.{suffix_id};
 ghost use Rattle.repl_data.specs.View.{DirectoryView, child_of, children_of, entry_of, tombstones_of, tombstone_of, name_of, parent_of};
+ghost use Rattle.repl_data.specs.Lent.{own_of, standing_of};
 
-use crate::change::{Rdn, ShownEntry};
+use crate::change::{Rdn, Shown, ShownEntry};
 use crate::csn::{Uid, UidList};
 use crate::items::NoMemory;
 use std::alloc::Global;
+
+/// How a present entry stands to the others.
+#[derive(Clone, Copy, Debug, Drop, Eq, PartialEq)]
+pub struct Standing {
+    /// It is deleted, and shows for the sake of its present children.
+    pub glue: bool,
+    /// Another entry has the name that it contends for.
+    pub lost: bool,
+}
 
 /// A view of the entries of a suffix, however it is kept.
 pub trait View {
     /// The view that it stands for.
     ghost view: { Self → DirectoryView };
+
+    /// The printed name of the suffix (RFC 4514).
+    fn suffix_name(&self) -> &[u8]
+        ensures { result.now ≡ (view self.now).suffix };
 
     /// The suffix entry.
     fn root(&self) -> Uid
@@ -44,4 +60,13 @@ pub trait View {
     /// The parent of a present entry or a tombstone.
     fn parent(&self, id: Uid) -> Option<Uid>
         ensures { result ≡ parent_of (view self.now) id };
+
+    /// The user attributes that a present entry shows, in order of name, as the view keeps them: no copy is
+    /// made. The attributes and classes that a view derives are not among them.
+    fn own(&self, id: Uid) -> Option<&[Shown]>
+        ensures { option_copied result ≡ own_of (view self.now) id };
+
+    /// Whether a present entry is glue, and whether it lost its name.
+    fn standing(&self, id: Uid) -> Option<Standing>
+        ensures { result ≡ standing_of (view self.now) id };
 }

@@ -151,7 +151,7 @@ impl StampedVal {
 }
 
 /// The values that are held.
-#[tactic(auto, using(crate::proofs::Loops::filter_more))]
+#[tactic(auto, using(repl_data::proofs::Loops::filter_more))]
 fn held(
     alloc: Global,
     rdn: &Rdn,
@@ -168,7 +168,7 @@ fn held(
 }
 
 /// The value before which no other shows.
-#[tactic(auto, using(crate::proofs::Loops::filter_more))]
+#[tactic(auto, using(repl_data::proofs::Loops::filter_more))]
 fn best(
     alloc: Global,
     rdn: &Rdn,
@@ -184,7 +184,7 @@ fn best(
     Ok(best)
 }
 
-#[tactic(auto, using(crate::proofs::Loops::map_more))]
+#[tactic(auto, using(repl_data::proofs::Loops::map_more))]
 fn vals_of(alloc: Global, facts: &[StampedVal]) -> Result<ValList, NoMemory>
     ensures { IfOk result (λ vals. vals ≡ map val_of facts.now) }
 {
@@ -251,7 +251,7 @@ fn push_shown(
     push_attr(&a.attr, vals, attrs)
 }
 
-#[tactic(auto, using(crate::proofs::Loops::flat_map_more))]
+#[tactic(auto, using(repl_data::proofs::Loops::flat_map_more))]
 fn each_shown(alloc: Global, rdn: &Rdn, facts: &[StampedAttr]) -> Result<AttrList, NoMemory>
     ensures { IfOk result (λ attrs. attrs ≡ flat_map (λ (a : AttrFacts). with_values a.attr (vals_shown rdn.now a)) facts.now) }
 {
@@ -272,7 +272,7 @@ fn user(attr: &Attr) -> Result<Shown, NoMemory>
     })
 }
 
-#[tactic(auto, using(crate::proofs::Loops::map_more))]
+#[tactic(auto, using(repl_data::proofs::Loops::map_more))]
 fn users(alloc: Global, attrs: &[Attr]) -> Result<ShownList, NoMemory>
     ensures { IfOk result (λ shown. shown ≡ map user attrs.now) }
 {

@@ -1,7 +1,7 @@
 use Rattle.std.proofs.Common.{sym, ap, ◌∙◌, ◌++◌, ◌∷◌, [], map}
 use Rattle.plain_view.specs.Seen.{act_of}
 use Rattle.repl_data.specs.Facts.{attr_facts}
-use Rattle.plain_view.proofs.Loops.{map_more}
+use Rattle.repl_data.proofs.Loops.{map_more}
 use Rattle.plain_view.proofs.facts.each_attr_facts.Goals as goal
 
 pub loop-attr-preserved : goal.loop-attr-preserved

@@ -1,7 +1,7 @@
 use Rattle.std.proofs.Common.{sym, ◌∙◌, ◌++◌, ◌∷◌, []}
 use Rattle.repl_data.specs.Order.{suffix_id}
 use Rattle.repl_data.specs.Facts.{entry_facts}
-use Rattle.plain_view.proofs.Loops.{map_more}
+use Rattle.repl_data.proofs.Loops.{map_more}
 use Rattle.plain_view.proofs.facts.each_entry_facts.Goals as goal
 
 pub loop-id-preserved : goal.loop-id-preserved

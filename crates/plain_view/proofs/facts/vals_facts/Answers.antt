@@ -1,7 +1,7 @@
 use Rattle.std.proofs.Common.{sym, ap, ◌∙◌, ◌++◌, ◌∷◌, [], map}
 use Rattle.plain_view.specs.Seen.{act_of}
 use Rattle.repl_data.specs.Facts.{val_facts}
-use Rattle.plain_view.proofs.Loops.{map_more}
+use Rattle.repl_data.proofs.Loops.{map_more}
 use Rattle.plain_view.proofs.facts.vals_facts.Goals as goal
 
 pub loop-key-preserved : goal.loop-key-preserved

@@ -1,6 +1,6 @@
 use Rattle.std.proofs.Common.{sym, ap, ◌∙◌}
 use Rattle.repl_data.specs.Order.{foldr, csn_max}
-use Rattle.plain_view.proofs.Loops.{foldr_push}
+use Rattle.repl_data.proofs.Loops.{foldr_push}
 use Rattle.plain_view.proofs.order.greatest.Goals as goal
 
 pub loop-one-preserved : goal.loop-one-preserved

@@ -1,6 +1,6 @@
 use Rattle.std.proofs.Common.{sym, ap, ◌∙◌, ◌++◌, ◌∷◌, []}
 use Rattle.plain_view.specs.Seen.{present_entry}
-use Rattle.plain_view.proofs.Loops.{map_more}
+use Rattle.repl_data.proofs.Loops.{map_more}
 use Rattle.plain_view.proofs.rows.present_entries.Goals as goal
 
 pub loop-e-preserved : goal.loop-e-preserved

@@ -2,6 +2,7 @@ use Rattle.repl_data.proofs.SameSet.{view_of-same, distinct}
 use Rattle.repl_data.proofs.Repeats.{own_facts-again, view_of-again}
 use Rattle.repl_data.proofs.Arrival.{closed_of_arrival, target_known, first_of_entry}
 use Rattle.repl_data.proofs.Steps.{all_facts-append}
+use Rattle.repl_data.proofs.Known.{known_by_view}
 use Rattle.repl_data.proofs.laws.view_laws.Goals as goal
 
 pub returns-clause-order : goal.returns-clause-order
@@ -21,3 +22,6 @@ returns-clause-next c = λ suffix xs d a. all_facts-append suffix xs d (target_k
 
 pub returns-clause-added : goal.returns-clause-added
 returns-clause-added c = first_of_entry
+
+pub returns-clause-known : goal.returns-clause-known
+returns-clause-known c = known_by_view

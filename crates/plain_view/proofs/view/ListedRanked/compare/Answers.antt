@@ -7,5 +7,5 @@ use Rattle.plain_view.proofs.view.ListedRanked.compare.Goals as goal
 
 pub returns : goal.returns
 returns c =
-    let paths = c.compare_lists.ensures ∙ (λ i. slice_cmp (λ (x : Rdn) (y : Rdn). rdn_key_cmp (rdn_key x) (rdn_key y)) (c.as_slice.ensures i) (c.as_slice-2.ensures i)) in
+    let paths = c.compare_paths-paths.ensures ∙ (λ i. slice_cmp (λ (x : Rdn) (y : Rdn). rdn_key_cmp (rdn_key x) (rdn_key y)) (c.as_slice.ensures i) (c.as_slice-2.ensures i)) in
     c.then.ensures ∙ (λ i. ordering_then (paths i) (c.compare.ensures i))

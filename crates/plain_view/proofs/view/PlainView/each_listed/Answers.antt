@@ -1,6 +1,6 @@
 use Rattle.std.proofs.Common.{sym, ap, ◌∙◌, ◌++◌, ◌∷◌, []}
 use Rattle.plain_view.specs.Listing.{listed}
-use Rattle.plain_view.proofs.Loops.{map_more}
+use Rattle.repl_data.proofs.Loops.{map_more}
 use Rattle.plain_view.proofs.view.PlainView.each_listed.Goals as goal
 
 pub loop-e-preserved : goal.loop-e-preserved

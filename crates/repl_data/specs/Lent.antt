@@ -1,0 +1,17 @@
+-- WHAT A VIEW LENDS of a present entry: what can be looked at without a copy.
+use Rattle.std.specs.Prelude.{List, map, Option, option_map}
+use Rattle.repl_data.specs.declared.csn.Uid.{Uid}
+use Rattle.repl_data.specs.declared.change.Shown.{Shown}
+use Rattle.repl_data.specs.declared.view.Standing.{Standing}
+use Rattle.repl_data.specs.View.{DirectoryView, PresentEntry, present_at, user, lost_name}
+
+-- its user attributes that show, without what the view derives
+abbrev pub own_of : DirectoryView → Uid → Option (List Shown)
+own_of v u = option_map (λ (e : PresentEntry). map user e.attrs) (present_at v u)
+
+-- whether it is glue, and whether it lost its name
+abbrev pub standing : PresentEntry → Standing
+standing e = record { glue = e.is_glue; lost = lost_name e }
+
+abbrev pub standing_of : DirectoryView → Uid → Option Standing
+standing_of v u = option_map standing (present_at v u)
