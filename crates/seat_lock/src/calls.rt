@@ -55,11 +55,15 @@ fn only<T>(mut list: Vec<Option<T>, Global>) -> T
 }
 
 impl<T: HasHistory> SeatLock<T> {
-    /// A lock for so many seats, and the one seat that has all numbers.
+    /// A lock for so many seats, and the one seat, which has all the numbers below that.
+    ///
+    /// Where there is no memory the value comes back.
+    #[tactic(auto, using(crate::proofs::Counting::count_up_length))]
     pub fn new(alloc: Global, value: T, seats: u32) -> Result<(SeatLock<T>, Seat<T>), (NoMemory, T)>
         requires some_seat { 0 < seats }
         requires blank { T.history value ≡ [] }
         ensures seat { IfOk result (λ r. IsOf r.0 r.1 × IsIdle r.1 × (numbers r.1 ≡ count_up 0 seats) × (seen r.1 ≡ []) × (is_joined r.1 ≡ false)) }
+        ensures count { IfOk result (λ r. length (numbers r.1) ≡ seats) }
         ensures number { IfOk result (λ r. r.1.number ≡ 0) }
         ensures fixed { IfOk result (λ r. fixed r.1 ≡ Some (T.fixed value)) }
         ensures lock { IfOk result (λ r. seats_of r.0 ≡ seats) }
@@ -90,8 +94,11 @@ impl<T: HasHistory> SeatLock<T> {
         }
     }
 
-    /// Draws a turn, waits until it is served, and gives the value. Its history is what this seat had
-    /// seen, and then entries of others.
+    /// Draws a turn, waits until it is served, and gives the value. Its history is what this seat had seen, and then
+    /// entries of others.
+    ///
+    /// Who draws first is served first. Where nobody else wants a turn it costs two atomic steps; a thread that waits
+    /// looks a few times and then sleeps, until its turn is passed to it.
     pub fn turn<R: Wait>(&self, rt: &R, seat: &mut Seat<T>) -> T
         requires mine { IsOf self.now seat.old }
         requires idle { IsIdle seat.old }
@@ -110,6 +117,8 @@ impl<T: HasHistory> SeatLock<T> {
     }
 
     /// Hands the value back, and passes the turn on. What was added to its history names this seat.
+    ///
+    /// It costs one atomic step and one look, and a call of the system only where somebody sleeps who may be next.
     pub fn hand_back(&self, seat: &mut Seat<T>, value: T)
         requires mine { IsOf self.now seat.old }
         requires turn { HasTurn seat.old }
@@ -125,7 +134,10 @@ impl<T: HasHistory> SeatLock<T> {
         self.places.of(served.wrapping_add(1)).wake();
     }
 
-    /// Gives the seat's greatest number to a new seat.
+    /// Gives the seat's greatest number to a new seat. Both have then seen the history so far; the entries of the one stay
+    /// its own, and the other has none.
+    ///
+    /// It costs two atomic steps, and waits for nobody.
     pub fn split(&self, seat: &mut Seat<T>) -> Seat<T>
         requires mine { IsOf self.now seat.old }
         requires idle { IsIdle seat.old }
@@ -153,8 +165,10 @@ impl<T: HasHistory> SeatLock<T> {
         }
     }
 
-    /// Hands all numbers of a seat to another. That one has then seen all that the two had seen, and
-    /// what comes behind it is of others.
+    /// Hands all numbers of a seat to another, which has then seen the history so far: it goes on from what either of the
+    /// two had seen, by entries of others. So the entries of both are in it, in their order.
+    ///
+    /// It costs two atomic steps, and waits for nobody. A seat to which another was joined can't be split.
     pub fn join(&self, seat: Seat<T>, into: &mut Seat<T>)
         requires mine { IsOf self.now seat × IsOf self.now into.old }
         requires idle { IsIdle seat × IsIdle into.old }
@@ -177,7 +191,7 @@ impl<T: HasHistory> SeatLock<T> {
         into.number = lesser(into.number, number);
     }
 
-    /// Gives the value back, with the seat that has all numbers. It has seen the whole history.
+    /// Ends the lock and gives the value back, with the seat that has all numbers. It has seen the whole history.
     pub fn close(self, seat: Seat<T>) -> T
         requires mine { IsOf self seat }
         requires idle { IsIdle seat }

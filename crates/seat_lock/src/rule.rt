@@ -3,7 +3,8 @@ use crate::view::View;
 use atomic_table::{Join, Play, Split, TableRule};
 use std::snapshot::Snapshot;
 
-/// A value that tells its history, a list of entries that each name a number.
+/// A value that tells its history, a list of entries that each name a number. Nothing of it is kept for the lock's sake:
+/// the three functions are for contracts alone.
 pub trait HasHistory {
     ghost use Rattle.std.specs.Prelude.{ℕ, List};
 

@@ -1,4 +1,4 @@
-use Rattle.std.proofs.Common.{◌≡◌, ℕ, ◌+◌, All, false, length, vec_len}
+use Rattle.std.proofs.Common.{◌≡◌, ◌+◌, All, false, length, vec_len}
 use Rattle.seat_lock.specs.Seats.{numbers, is_joined, IsOf, IsIdle}
 use Rattle.lock_cases.specs.Ready.{IsReady}
 use Rattle.lock_cases.proofs.work.seats_of.Given as goal
