@@ -1,5 +1,5 @@
 -- A seat that a thread takes its turns with.
-use Rattle.std.specs.Prelude.{◌≡◌, ℕ, length}
+use Rattle.std.specs.Prelude.{◌≡◌, length}
 use Rattle.seat_lock.specs.declared.lock.SeatLock.{SeatLock}
 use Rattle.seat_lock.specs.declared.seat.SeatOf.{SeatOf}
 use Rattle.seat_lock.specs.Seats.{numbers, IsOf, IsIdle}

@@ -28,12 +28,7 @@ impl HasHistory for Notes {
 }
 
 /// Whether each seat below `seats` has just so many lines, numbered from 0 on in their order.
-pub fn is_whole(
-    alloc: Global,
-    notes: &Notes,
-    seats: u32,
-    turns: u32,
-) -> Result<bool, AllocError> {
+pub fn is_whole(alloc: Global, notes: &Notes, seats: u32, turns: u32) -> Result<bool, AllocError> {
     let mut next: Vec<u32> = vec![in alloc; 0; seats as usize]?;
     for line in notes.lines.iter() {
         let Some(wanted) = next.get_mut(line.seat as usize) else {

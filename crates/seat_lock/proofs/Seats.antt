@@ -478,28 +478,40 @@ module _ {T E G : Type 0} (history : T → List E) (number : E → ℕ) (fixed :
       at_first zero v e = subst (Fits history number fixed [] (fixed x) 0 (core.some (Some x) ∷ [])) (some-injective (first_view seats (fixed x)) v e) (record { goes_on = ([], refl, λ k h. refl); fixes = λ h. refl; alone = λ free k q has_k has_q below. refl; has_number = omega arith; out = tt; heard = λ i p none. absurd (some-ne-none p (sym none)) })
       at_first (suc j) v e = absurd (some-ne-none v (sym e))
 
-  -- a seat that has all numbers and no turn: the value is at home, and tells what the seat has seen
-  pub ends : (s : St) (r : Rule s) (id : ℕ) (v : View E G) → get_elem? s.views id ≡ core.some v → v.stage ≡ Idle → length v.numbers ≡ seats → 0 < length v.numbers → (x : T) × (s.homes ≡ core.some (Some x) ∷ []) × (history x ≡ v.seen) × (v.fixed ≡ Some (fixed x))
-  ends s r id v at idle all some_number = ⊎_elim
-      (λ h. (h.0, h.1, h.2 ∙ (goes.1 ∙ (ap (λ z. v.seen ++ z) (names_none number goes.0 none_between) ∙ append-nil v.seen)), (r.fits id v at).fixes some_number ∙ ap Some (sym h.3)))
-      (λ o. let a = total_two (λ (u : View E G). length u.numbers) s.views o.1 id o.2 v (apart s.views o.1 id o.2 v o.3 at o.4 (ap is_holding idle)) o.3 at in let b = (r.fits o.1 o.2 o.3).has_number in let c = r.dealt in
-      let d = turn_one o.2.stage o.4 in absurd (omega arith)) r.place
+  -- a seat that has as many numbers as were dealt has each of them
+  has_dealt : (s : St) (r : Rule s) (id : ℕ) (v : View E G) → get_elem? s.views id ≡ core.some v → length v.numbers ≡ seats → (k : ℕ) → k < seats → 0 < times k v.numbers
+  has_dealt s r id v at all k below = let spent : View E G = spent_view in
+      let a = total_set (λ (u : View E G). times k u.numbers) s.views id v spent at in let b = total_set (λ (u : View E G). length u.numbers) s.views id v spent at in
+      let c = total_under (λ (u : View E G). times k u.numbers) (λ (u : View E G). length u.numbers) (set s.views id spent) (λ j u e. times_few k u.numbers) in
+      let d = r.numbers k in let e = r.dealt in let f = count_up_all k 0 seats (omega arith) (omega arith) in omega arith
+
+  -- and so each entry names one of its numbers
+  pub names_own : (s : St) (r : Rule s) (id : ℕ) (v : View E G) → get_elem? s.views id ≡ core.some v → length v.numbers ≡ seats → (k : ℕ) → 0 < named number k r.so_far → 0 < times k v.numbers
+  names_own s r id v at all k some_there = dite (dec_le seats k) (λ above. let a = r.all_dealt k above in absurd (omega arith)) (λ below. has_dealt s r id v at all k (omega arith))
+
+  -- and it has seen the whole history
+  pub whole_seen : (s : St) (r : Rule s) (id : ℕ) (v : View E G) → get_elem? s.views id ≡ core.some v → length v.numbers ≡ seats → r.so_far ≡ v.seen
+  whole_seen s r id v at all = goes.1 ∙ (ap (λ z. v.seen ++ z) (names_none number goes.0 none_between) ∙ append-nil v.seen)
     where
       goes : GoesOn number v.numbers v.seen r.so_far
       goes = (r.fits id v at).goes_on
 
+      none_between : (k : ℕ) → named number k goes.0 ≡ 0
+      none_between k = dite (dec_le seats k)
+          (λ above. let a = r.all_dealt k above in let b : named number k r.so_far ≡ named number k (v.seen ++ goes.0) = ap (named number k) goes.1 in omega (arith, named_append number k v.seen goes.0))
+          (λ below. goes.2 k (has_dealt s r id v at all k (omega arith)))
+
+  -- a seat that has all numbers and no turn: the value is at home, and tells what the seat has seen
+  pub ends : (s : St) (r : Rule s) (id : ℕ) (v : View E G) → get_elem? s.views id ≡ core.some v → v.stage ≡ Idle → length v.numbers ≡ seats → 0 < length v.numbers → (x : T) × (s.homes ≡ core.some (Some x) ∷ []) × (history x ≡ v.seen) × (v.fixed ≡ Some (fixed x))
+  ends s r id v at idle all some_number = ⊎_elim
+      (λ h. (h.0, h.1, h.2 ∙ whole_seen s r id v at all, (r.fits id v at).fixes some_number ∙ ap Some (sym h.3)))
+      (λ o. let a = total_two (λ (u : View E G). length u.numbers) s.views o.1 id o.2 v (apart s.views o.1 id o.2 v o.3 at o.4 (ap is_holding idle)) o.3 at in let b = (r.fits o.1 o.2 o.3).has_number in let c = r.dealt in
+      let d = turn_one o.2.stage o.4 in absurd (omega arith)) r.place
+    where
       turn_one : (st : Stage) → is_holding st ≡ true → has_turn st ≡ 1
       turn_one Idle h = absurd (false≢true h)
       turn_one (Waits t) h = refl
       turn_one (Holds t) h = refl
-
-      none_between : (k : ℕ) → named number k goes.0 ≡ 0
-      none_between k = dite (dec_le seats k)
-          (λ above. let a = r.all_dealt k above in let b : named number k r.so_far ≡ named number k (v.seen ++ goes.0) = ap (named number k) goes.1 in omega (arith, named_append number k v.seen goes.0))
-          (λ below. goes.2 k (let spent : View E G = spent_view in
-          let a = total_set (λ (u : View E G). times k u.numbers) s.views id v spent at in let b = total_set (λ (u : View E G). length u.numbers) s.views id v spent at in
-          let c = total_under (λ (u : View E G). times k u.numbers) (λ (u : View E G). length u.numbers) (set s.views id spent) (λ j u e. times_few k u.numbers) in
-          let d = r.numbers k in let e = r.dealt in let f = count_up_all k 0 seats (omega arith) (omega arith) in omega arith))
 
 pub holding_at : (st : Stage) → is_holding st ≡ true → (t : ℕ) × (st ≡ Holds t)
 holding_at Idle h = absurd (false≢true h)
@@ -577,6 +589,11 @@ module _ {E : Type 0} (name : E → ℕ) where
   under_none ns [] h = refl
   under_none ns (e ∷ es) h = let one = one_same (name e) (name e) refl in let z = h (name e) (omega arith) in
       ap (λ (n : ℕ). if nat_lt 0 n then e ∷ under name ns es else under name ns es) z ∙ under_none ns es (λ k p. h k (omega arith))
+
+  pub under_all : (ns : List ℕ) (es : List E) → ((k : ℕ) → 0 < named name k es → 0 < times k ns) → under name ns es ≡ es
+  under_all ns [] h = refl
+  under_all ns (e ∷ es) h = let one = one_same (name e) (name e) refl in
+      ap (λ (b : Bool). if b then e ∷ under name ns es else under name ns es) (lt-ltb 0 (times (name e) ns) (h (name e) (omega arith))) ∙ ap (λ (zs : List E). e ∷ zs) (under_all ns es (λ k p. h k (omega arith)))
 
   -- entries of others are not under the numbers
   under_foreign : (ns : List ℕ) (xs ys : List E) → IsForeign name ns ys → under name ns (xs ++ ys) ≡ under name ns xs
@@ -700,3 +717,9 @@ module _ {T E G : Type 0} (history : T → List E) (name : E → ℕ) (fixed : T
       → y ≡ Some z → (history z ≡ v.seen) × (v.fixed ≡ Some (fixed z))
   closed seats id v words slots y z f idle all some_number found is = let last = closing seats id v words slots y f idle all some_number found in
       (ap (λ (w : Option T). carried_history history name fixed ((0, w) ∷ [])) (sym is ∙ last.1) ∙ last.2, last.3 ∙ ap (λ (w : Option T). Some (fixed_in (fixed z) w)) (sym last.1 ∙ is))
+
+  -- its own entries are all that there are
+  pub closed_own : (seats id : ℕ) (v : View E G) (words : List ℕ) (slots : List (Option T)) → Final (Seen (Kept history name fixed seats) id v) words slots → length v.numbers ≡ seats → under name v.numbers v.seen ≡ v.seen
+  closed_own seats id v words slots f all =
+      let whole = whole_seen history name fixed seats f.0 f.1.0 id v f.1.1 all in
+      under_all name v.numbers v.seen (λ k h. names_own history name fixed seats f.0 f.1.0 id v f.1.1 all k (subst (λ (z : List E). 0 < named name k z) (sym whole) h))

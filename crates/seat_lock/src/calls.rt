@@ -109,7 +109,13 @@ impl<T: HasHistory> SeatLock<T> {
         ensures later { GoesOn T.number (numbers seat.old) (seen seat.old) (T.history result) }
     {
         let turn = self.table.shared.fetch_add::<Draw>(&mut seat.place, 0, 1);
-        wait(rt, &self.table.shared, self.places.of(turn), &mut seat.place, turn);
+        wait(
+            rt,
+            &self.table.shared,
+            self.places.of(turn),
+            &mut seat.place,
+            turn,
+        );
         let Some(value) = self.table.shared.exchange(&mut seat.place, 0, None) else {
             unreachable!()
         };
@@ -191,12 +197,14 @@ impl<T: HasHistory> SeatLock<T> {
         into.number = lesser(into.number, number);
     }
 
-    /// Ends the lock and gives the value back, with the seat that has all numbers. It has seen the whole history.
+    /// Ends the lock and gives the value back, with the seat that has all numbers. That has seen the whole history, and all
+    /// entries are its own.
     pub fn close(self, seat: Seat<T>) -> T
         requires mine { IsOf self seat }
         requires idle { IsIdle seat }
         requires all { length (numbers seat) ≡ seats_of self }
         ensures history { T.history result ≡ seen seat }
+        ensures own { own T.number seat ≡ T.history result }
         ensures fixed { fixed seat ≡ Some (T.fixed result) }
     {
         let SeatOf {
