@@ -290,9 +290,9 @@ pub fn exec_main<S: Source, K: Sink>(
         Outcome (output script) result (K.contents sink.old) (K.contents sink.new))) }
     ensures ended { result ≡ Status.Done → IsAtEnd (S.left source.new) }
 
-    // Before and after each line of the script the vectors are exact, each node holds a prefix of each originator's
+    // Before and after each line of every script the vectors are exact, each node holds a prefix of each originator's
     // changes, and nodes with equal vectors and nothing pending have the same changes and show the same entries.
-    ensures converges { IfSome (S.left source.old) ConvergesThroughout }
+    ensures converges { (script : List ℕ) → ConvergesThroughout script }
 
     // A fault is told only where the source or the sink had one in this call.
     ensures read { result ≡ Status.ReadFault → Rose (S.faults source.old) (S.faults source.new) }
