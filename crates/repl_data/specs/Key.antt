@@ -1,6 +1,7 @@
 -- THE KEY OF A DIRECTORY STRING, by which its spellings compare: full case folding, then compatibility
 -- composition, then outer spaces dropped and runs of spaces made one. (After RFC 4518, section 2.)
 use Rattle.std.specs.Prelude.{ℕ, ◌-◌, Bool, true, ◌==◌, ◌&&◌, List, [], ◌∷◌, length, remove, slice_index, chars, encode_utf8_all, if◌then◌else◌}
+use Rattle.std.specs.Str.{is_utf8}
 use Rattle.caseless.specs.Caseless.{default_case_fold}
 use Rattle.unicode_normalization.specs.Forms.{nfkc}
 
@@ -24,3 +25,7 @@ trimmed bytes = without_last_space (squeezed true bytes)
 -- the key of a text of UTF-8
 unfoldable pub text_key : List ℕ → List ℕ
 text_key text = trimmed (folded text)
+
+-- the key of bytes: that of their text, and of bytes that are no UTF-8 these bytes
+abbrev pub bytes_key : List ℕ → List ℕ
+bytes_key bytes = if is_utf8 bytes then text_key bytes else bytes

@@ -15,7 +15,7 @@ use Rattle.repl_data.specs.declared.change.Change.{Change}
 use Rattle.repl_data.specs.declared.change.Suffix.{Suffix}
 use Rattle.repl_data.specs.Order.{uid_eq, uid_cmp, suffix_id, same_rdn, rdn_key, rdn_key_cmp, bytes_cmp, bytes_eq, put_by, in_order_by}
 use Rattle.repl_data.specs.Text.{uid_text, rdn_text, joined}
-use Rattle.repl_data.specs.Key.{text_key}
+use Rattle.repl_data.specs.Key.{bytes_key}
 use Rattle.repl_data.specs.Stamps.{text_val}
 use Rattle.repl_data.specs.Facts.{EntryFacts, all_facts, attrs_shown}
 use Rattle.repl_data.specs.Presence.{is_live, present_of, gone_of}
@@ -117,7 +117,7 @@ abbrev pub glue_conflict : Val
 glue_conflict = record { key = codes "deletedentryhaschildren"; spelled = codes "deletedEntryHasChildren" }
 
 abbrev pub naming_conflict : List ℕ → Val
-naming_conflict dn = record { key = text_key (codes "namingConflict " ++ dn); spelled = codes "namingConflict " ++ dn }
+naming_conflict dn = record { key = bytes_key (codes "namingConflict " ++ dn); spelled = codes "namingConflict " ++ dn }
 
 abbrev pub id_val : Uid → Val
 id_val u = text_val (uid_text u)

@@ -1,6 +1,7 @@
 //! What holds of every set of changes, for who asks.
 
 ghost use Rattle.std.specs.Prelude.{◌≡◌, ◌||◌, ℕ, Bool, true, false, List, [], ◌∷◌, ◌++◌, IsTrue, map, filter};
+ghost use Rattle.std.specs.Str.{is_utf8};
 ghost use Rattle.std.specs.List.{AllByRecursion, list_all, list_any};
 ghost use Rattle.repl_data.specs.declared.csn.Uid.{Uid};
 ghost use Rattle.repl_data.specs.declared.change.Change.{Change};
@@ -67,6 +68,9 @@ pub fn derived_laws()
     ensures glue { glue_class.key ≡ text_key glue_class.spelled }
     ensures tombstone { tombstone_class.key ≡ text_key tombstone_class.spelled }
     ensures glue_conflict { glue_conflict.key ≡ text_key glue_conflict.spelled }
-    ensures naming_conflict { (dn : List ℕ) → (naming_conflict dn).key ≡ text_key (naming_conflict dn).spelled }
+    ensures naming_conflict { (dn : List ℕ) → is_utf8 (naming_conflict dn).spelled ≡ true → (naming_conflict dn).key ≡ text_key (naming_conflict dn).spelled }
+
+    // A name that is lost may have bytes that are no text. They are their own key.
+    ensures naming_bytes { (dn : List ℕ) → is_utf8 (naming_conflict dn).spelled ≡ false → (naming_conflict dn).key ≡ (naming_conflict dn).spelled }
     ensures id { (u : Uid) → (id_val u).key ≡ text_key (id_val u).spelled }
 {}

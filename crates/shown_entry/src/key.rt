@@ -1,9 +1,10 @@
-//! The key of a text that tells a conflict.
+//! The key of what tells a conflict.
 
-ghost use Rattle.std.specs.Prelude.{◌≡◌, IfOk, codes};
-ghost use Rattle.repl_data.specs.Key.{text_key};
+ghost use Rattle.std.specs.Prelude.{◌≡◌, true, IfOk, codes};
+ghost use Rattle.repl_data.specs.Key.{bytes_key};
+ghost use Rattle.attr_keys.specs.Value.{has_text};
 
-use attr_keys::value_key;
+use attr_keys::{KeyFault, value_key};
 use repl_data::{AttrKey, Bytes, NoMemory};
 use std::alloc::Global;
 
@@ -16,14 +17,15 @@ fn conflict_attr(alloc: Global) -> Result<AttrKey, NoMemory>
     })
 }
 
-/// The key of a text that tells a conflict. Bytes that are no UTF-8 are no such text and have no key:
-/// `NoMemory` is answered for them.
-pub(crate) fn conflict_key(alloc: Global, text: &[u8]) -> Result<Bytes, NoMemory>
-    ensures { IfOk result (λ key. key ≡ text_key text.now) }
+/// The key of bytes that tell a conflict. Those that are no UTF-8 are their own key.
+pub(crate) fn conflict_key(alloc: Global, bytes: &[u8]) -> Result<Bytes, NoMemory>
+    requires { has_text bytes.now ≡ true }
+    ensures { IfOk result (λ key. key ≡ bytes_key bytes.now) }
 {
     let attr = conflict_attr(alloc)?;
-    match value_key(alloc, &attr, text) {
+    match value_key(alloc, &attr, bytes) {
         Ok(key) => Ok(key),
+        Err(KeyFault::BadValue { .. }) => Bytes::from_slice(alloc, bytes),
         Err(_) => Err(NoMemory),
     }
 }

@@ -1,6 +1,6 @@
 -- An act in front of others, where all of them add values at the zero stamp.
 use Rattle.std.proofs.Common.{◌≡◌, ◌≢◌, Bool, true, false, cond, ℕ, List, [], ◌∷◌, ◌++◌, map, refl, sym, ap, ◌∙◌}
-use Rattle.std.specs.Prelude.{filter, flat_map, if◌then◌else◌}
+use Rattle.std.specs.Prelude.{filter, flat_map}
 use Rattle.std.specs.List.{AllByRecursion, list_any}
 use Rattle.std.specs.Ordering.{is_eq, ordering_reverse}
 use Rattle.std.specs.declared.cmp.Ordering.TheVariants.{Equal}
@@ -11,9 +11,9 @@ use Rattle.repl_data.specs.declared.change.Val.{Val}
 use Rattle.repl_data.specs.declared.change.Ava.{Ava}
 use Rattle.repl_data.specs.declared.change.Suffix.{Suffix}
 use Rattle.repl_data.specs.Order.{zero_csn, csn_lt, bytes_cmp, bytes_eq, put_by, later, latest_or, greatest, in_order, in_order_by}
-use Rattle.repl_data.specs.Stamps.{Act, Adds, Deletes, Clears, suffix_acts}
+use Rattle.repl_data.specs.Stamps.{Act, Adds, Deletes, Clears}
 use Rattle.repl_data.specs.Facts.{ValFacts, AttrFacts, attr_of, is_act_on, keys_named, additions, deletions, clearings, val_facts, attr_facts, attrs_facts}
-use Rattle.repl_data.proofs.Orders.{bytes_total, bytes_exact}
+use Rattle.repl_data.proofs.Orders.{bytes_total}
 use Rattle.repl_data.proofs.InOrder.{in_order_by-Rises, map-put, found, any-in_order_by}
 use Rattle.repl_data.proofs.Steps.{not_equal}
 use Rattle.repl_data.proofs.Sound.{neither}
