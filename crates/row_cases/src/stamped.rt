@@ -14,11 +14,11 @@ pub fn answer(alloc: Global, fields: &mut Fields<'_>, told: &mut String) -> Resu
     match fields.word()? {
         "added" => {
             let entry = added(alloc, &next_change(alloc, fields)?)?;
-            tell_after(alloc, &entry, fields, told)
+            tell_after(alloc, entry, fields, told)
         }
         "root" => {
             let entry = root(alloc, fields)?;
-            tell_after(alloc, &entry, fields, told)
+            tell_after(alloc, entry, fields, told)
         }
         _ => Err(CaseFault::Subject),
     }
@@ -63,13 +63,13 @@ fn after(alloc: Global, entry: &StampedEntry, change: &Change) -> Result<Stamped
 /// Tells the entry after all changes that follow.
 fn tell_after(
     alloc: Global,
-    entry: &StampedEntry,
+    entry: StampedEntry,
     fields: &mut Fields<'_>,
     told: &mut String,
 ) -> Result<(), CaseFault>
-    requires { IsOrdered entry.now }
+    requires { IsOrdered entry }
 {
-    let mut last = entry.clone()?;
+    let mut last = entry;
     for _ in 0..u16::MAX {
         if fields.is_empty() {
             break;
