@@ -9,6 +9,3 @@ pub use ldap_requests::{MESSAGE_LIMIT, NotLdapWhy, ReadFault};
 pub use ldap_types::{Bytes, NoMemory, Reply};
 pub use read::{read_reply, reply_laws};
 pub use write::write_reply;
-
-#[cfg(test)]
-mod tests;

@@ -98,6 +98,3 @@ impl Unfinished {
         self.waiting.goes_on(self.bytes.as_slice())
     }
 }
-
-#[cfg(test)]
-mod tests;
