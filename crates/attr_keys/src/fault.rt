@@ -1,3 +1,5 @@
+//! Why a name or a value has no key.
+
 ghost use Rattle.std.specs.Prelude.{◌≡◌};
 ghost use Rattle.attr_keys.specs.declared.fault.KeyFault.TheVariants as fault;
 

@@ -1,3 +1,5 @@
+//! The kinds of values.
+
 /// How the values of an attribute are read and compared.
 #[derive(Clone, Copy, Debug, Drop, Eq, PartialEq)]
 pub enum Kind {

@@ -1,3 +1,5 @@
+//! What keys are to one another.
+
 ghost use Rattle.std.specs.Prelude.{◌≡◌, ℕ, List, None};
 ghost use Rattle.attr_keys.specs.declared.kind.Kind.{Kind};
 ghost use Rattle.attr_keys.specs.Name.{bad_name};

@@ -1,3 +1,5 @@
+//! Attribute names and their keys (RFC 4512, sections 1.4 and 2.5).
+
 ghost use Rattle.std.specs.Prelude.{◌≡◌, ◌≢◌, ◌≤◌, ◌↔◌, ◌<◌, ◌==◌, ℕ, IfOk, IsOk, IfSome, position, map, length};
 ghost use Rattle.std.specs.Char.{to_ascii_lowercase};
 ghost use Rattle.attr_keys.specs.Name.{next_state, may_end, bad_name, base_len};

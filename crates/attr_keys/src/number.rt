@@ -1,3 +1,5 @@
+//! Values that are numbers: which are accepted, and how they compare.
+
 ghost use Rattle.std.specs.Prelude.{◌≡◌};
 ghost use Rattle.attr_keys.specs.Value.{limit, with_digit, first_digit, next_number, is_whole, bad_integer, integer_of, whole_value};
 

@@ -1,3 +1,5 @@
+//! The table of 40 types: kind, other name, single-valued or not.
+
 ghost use Rattle.std.specs.Prelude.{◌≡◌, find};
 ghost use Rattle.std.specs.Option.{option_copied, option_map};
 ghost use Rattle.attr_keys.specs.Table.{is_named, type_of, first_name, kind_of, is_single};

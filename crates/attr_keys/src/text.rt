@@ -1,3 +1,5 @@
+//! Values that are text: folding, spaces, phone numbers (RFC 4518).
+
 ghost use Rattle.std.specs.Prelude.{◌≡◌, ◌+◌, ◌<◌, ◌≤◌, ◌&&◌, not, nat_le, MatchResult, MatchOption, IfOk, IfNone, drop, length, position, chars, string_bytes, encode_utf8_all};
 ghost use Rattle.std.specs.List.{list_any};
 ghost use Rattle.std.specs.Str.{IsAscii, IsErrorLen, valid_up_to, error_len};

@@ -1,3 +1,5 @@
+//! The key of a value by the kind of its type.
+
 ghost use Rattle.std.specs.Prelude.{◌≡◌, IfOk, IfErr, IsOk};
 ghost use Rattle.attr_keys.specs.Table.{kind_of};
 ghost use Rattle.attr_keys.specs.Value.{bad_value, IsValueFault, prepared, is_spaced, value_key, piece_key, integer_of, by_value, compared};

@@ -1,3 +1,5 @@
+//! Why bytes are no element.
+
 /// Why no element was read.
 #[derive(Clone, Copy, Debug, Eq, PartialEq)]
 pub enum BerFault {

@@ -1,3 +1,5 @@
+//! Integers and truth values.
+
 ghost use Rattle.std.specs.Prelude.{◌≡◌, ◌<◌, ◌≤◌, ◌-◌, ◌++◌, ◌↔◌, length, take, replicate, IsSome};
 ghost use Rattle.ber_core.specs.Number.{least_number, sign_byte, integer, integer_of, boolean_of};
 

@@ -1,3 +1,5 @@
+//! Reading a header or an element.
+
 ghost use Rattle.std.specs.Prelude.{◌≡◌, ℕ, List, ◌++◌, ◌+◌, ◌≤◌, ◌↔◌, IfOk, IfErr, IsOkAnd, MatchResult, length, take};
 ghost use Rattle.ber_core.specs.declared.fault.BerWhy.{BerWhy};
 ghost use Rattle.ber_core.specs.Element.{IsElement, IsHeader};

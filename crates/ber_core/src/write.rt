@@ -1,3 +1,5 @@
+//! Writing elements and integers, and the laws of both ways.
+
 ghost use Rattle.std.specs.Prelude.{◌≡◌, ◌<◌, ◌≤◌, ◌+◌, ◌^◌, ◌++◌, ◌⊎◌, ℕ, ℤ, List, length, vec_len, vec_capacity, OnOk, OnErr, FitsSigned};
 ghost use Rattle.std.specs.Int.{w64};
 ghost use Rattle.ber_core.specs.Number.{IsBytes, drop_zeros, drop_needless, integer_of, shortest_integer};

@@ -1,3 +1,5 @@
+//! The index beside the list: places by originator and CSN.
+
 ghost use Rattle.std.specs.Prelude.{map, filter, Contains, IsTrue, ◌↔◌, ◌≡◌, ℕ, ◌<◌, ◌≤◌, true, false, length, slice_index_or};
 ghost use Rattle.repl_data.specs.declared.csn.Csn.{Csn};
 ghost use Rattle.change_log.specs.Index.{place_lt, no_place, IsRising, is_upto, is_in_reach, IsLeastOf, lower_place};

@@ -1,3 +1,5 @@
+//! The changelog: appends, the change before, the next one beyond a vector.
+
 ghost use Rattle.std.specs.Prelude.{◌≡◌, ℕ, ◌+◌, ◌-◌, ◌<◌, ◌≤◌, ◌↔◌, ◌++◌, ◌∷◌, [], List, true, false, length, slice_index_or, slice_get, max, Contains, IsTrue, IfOk, OnOk, OnErr, MatchOption, vec_len, vec_capacity};
 ghost use Rattle.std.specs.List.{All};
 ghost use Rattle.std.specs.Option.{option_copied};

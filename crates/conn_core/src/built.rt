@@ -1,3 +1,5 @@
+//! Whether all requests that are held are built.
+
 ghost use Rattle.std.specs.Prelude.{◌≡◌, List, ℕ, IfOk};
 ghost use Rattle.std.specs.List.{list_all};
 ghost use Rattle.ldap_types.specs.declared.request.Request.{Request};

@@ -1,3 +1,5 @@
+//! The connection: bytes in, requests carried out, replies that wait.
+
 ghost use Rattle.std.specs.Prelude.{◌≡◌, ◌≢◌, ◌≤◌, ◌↔◌, ◌++◌, ◌∷◌, [], true, false, Ok, List, ℕ, length, drop, IfOk, IsOk, OnOk, OnErr, MatchOption};
 ghost use Rattle.std.specs.List.{list_all};
 ghost use Rattle.ldap_types.specs.declared.request.Request.{Request};

@@ -1,3 +1,5 @@
+//! What stands at the front of a stream.
+
 ghost use Rattle.std.specs.Prelude.{◌≡◌, IfOk, IsTrue};
 ghost use Rattle.conn_core.specs.First.{IsFirst};
 ghost use Rattle.conn_core.specs.Stream.{EndsSo};

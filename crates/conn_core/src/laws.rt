@@ -1,3 +1,5 @@
+//! What holds of every stream.
+
 ghost use Rattle.conn_core.specs.Whole.{HasOneStream, MayBeCut};
 
 /// What holds of every stream: it is whole requests and a rest in one way alone, which is computed, and

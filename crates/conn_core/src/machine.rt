@@ -1,3 +1,5 @@
+//! A connection, a node and a clock as one side of a conversation.
+
 ghost use Rattle.std.specs.Prelude.{◌≡◌, ◌++◌, [], true, length, min, take, drop};
 ghost use Rattle.conn_core.specs.Waiting.{waiting};
 ghost use Rattle.conn_core.specs.Machine.{Parts, parts, Adds};

@@ -1,3 +1,5 @@
+//! Replies that wait.
+
 ghost use Rattle.std.specs.Prelude.{◌≡◌, ◌+◌, ◌∷◌, ◌++◌, [], OnOk, OnErr, MatchOption};
 
 use ldap_types::{Bytes, NoMemory};

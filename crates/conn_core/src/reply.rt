@@ -1,3 +1,5 @@
+//! Results, and the replies that carry them.
+
 ghost use Rattle.std.specs.Prelude.{◌≡◌, ◌≢◌, ◌∷◌, ◌++◌, [], Some, IfOk, OnOk, OnErr, ◌||◌, ◌==◌};
 ghost use Rattle.ldap_rules.specs.Case.{result_of};
 ghost use Rattle.ldap_replies.specs.Form.{reply_bytes};

@@ -1,3 +1,5 @@
+//! The rest of a reply that was begun to be taken.
+
 ghost use Rattle.std.specs.Prelude.{◌≡◌, ◌≢◌, ◌++◌, [], true, false, length, min, take, drop};
 ghost use Rattle.conn_core.specs.Waiting.{waiting};
 

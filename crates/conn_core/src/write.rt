@@ -1,3 +1,5 @@
+//! A write: begin, commit, then settle or abort.
+
 ghost use Rattle.std.specs.Prelude.{◌≡◌, ◌⊎◌, true, false};
 ghost use Rattle.ldap_rules.specs.Case.{result_of};
 ghost use Rattle.ldap_rules.specs.Verdict.{is_built};

@@ -1,3 +1,5 @@
+//! What a connection keeps between two lines.
+
 ghost use Rattle.std.specs.Prelude.{◌≡◌, [], false, IfOk, OnOk};
 ghost use Rattle.dir_top.specs.Client.{IsIdle, new_client, has_part, with_bytes, has_built};
 

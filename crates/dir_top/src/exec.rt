@@ -1,3 +1,5 @@
+//! `exec_main`: reads a script, carries out its lines, writes what they print.
+
 ghost use Rattle.std.specs.Prelude.{◌≡◌, ◌≤◌, ◌<◌, length, ◌++◌, ◌∷◌, [], List, ℕ, Option, OnOk, OnErr, IfOk, IfErr, IfSome, IfNone, MatchResult, string_bytes, map, ◌⊎◌};
 ghost use Rattle.std.specs.Option.{option_map};
 ghost use Rattle.std.specs.Io.KnownBytes.{Appends, IsAtEnd};

@@ -1,3 +1,5 @@
+//! The lines of the script, by their words.
+
 ghost use Rattle.std.specs.Prelude.{◌≡◌, IfOk, map, [], ◌∷◌};
 ghost use Rattle.dir_top.specs.Words.{words_of};
 ghost use Rattle.dir_top.specs.Line.{line_of, line_by_words, line_named, plain_line, ticket_line, session_line, clock_line, connect_line, input_line, start_line, deliver_line, fail_line, node_of, connection_of, ticket_of, one_node, two_nodes, one_ticket};

@@ -1,3 +1,5 @@
+//! The one write of a `start`.
+
 ghost use Rattle.std.specs.Prelude.{◌≡◌, IfOk};
 ghost use Rattle.std.specs.List.{list_any};
 ghost use Rattle.ldap_rules.specs.Verdict.{is_built, is_update_control};

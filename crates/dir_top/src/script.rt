@@ -1,3 +1,5 @@
+//! One line: why it is refused, or what it does.
+
 ghost use Rattle.std.specs.Prelude.{◌≡◌, ◌||◌, Some, None, true, false, not, ◌∷◌, [], IfOk, IsNone, OnOk};
 ghost use Rattle.world_core.specs.World.{ticket_in};
 ghost use Rattle.dir_top.specs.declared.state.State.{State};

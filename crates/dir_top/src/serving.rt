@@ -1,3 +1,5 @@
+//! Bytes on a connection, served over the world.
+
 ghost use Rattle.std.specs.Prelude.{◌≡◌, ◌++◌, [], true, false, if◌then◌else◌, IfOk, OnOk};
 ghost use Rattle.world_core.specs.World.{is_node};
 ghost use Rattle.conn_core.specs.Whole.{stream_of};

@@ -1,3 +1,5 @@
+//! What a script keeps: the world, the connections, and whom tickets owe a reply.
+
 ghost use Rattle.std.specs.Prelude.{◌≡◌, ◌≤◌, ◌==◌, find, replicate, slice_index_or, slice_set, unwrap_or, IfOk, OnOk};
 ghost use Rattle.std.specs.Option.{option_copied};
 ghost use Rattle.dir_top.specs.declared.state.Owed.{Owed};

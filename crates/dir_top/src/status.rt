@@ -1,3 +1,5 @@
+//! How a run ended: its number and its text.
+
 ghost use Rattle.std.specs.Prelude.{◌≡◌, ◌++◌, IfOk};
 ghost use Rattle.dir_top.specs.Status.{number_of, line_text, text_of};
 

@@ -1,3 +1,5 @@
+//! Why a line is refused, and the text of it.
+
 ghost use Rattle.std.specs.Prelude.{◌≡◌, ◌++◌, IfOk};
 ghost use Rattle.std.specs.Fmt.{decimal};
 ghost use Rattle.dir_top.specs.Status.{why_text};

@@ -1,3 +1,5 @@
+//! The words of a line: names, numbers, bytes.
+
 ghost use Rattle.std.specs.Prelude.{◌≡◌, ◌-◌, ◌^◌, ◌≤◌, min, IfOk, IfSome, map};
 ghost use Rattle.std.specs.List.{list_all};
 ghost use Rattle.dir_top.specs.Words.{words_of, is_digit, is_number, value_of, number_in, bytes_of};

@@ -1,3 +1,5 @@
+//! Whether a name is the suffix or below it.
+
 ghost use Rattle.std.specs.Prelude.{◌≡◌, ℕ, ◌<◌, ◌≤◌, ◌+◌, ◌-◌, drop, length, IfSome, None};
 ghost use Rattle.dn_text.specs.Below.{StandsAbove, is_same_part, are_same_parts, are_same_rdns};
 

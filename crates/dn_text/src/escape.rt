@@ -1,3 +1,5 @@
+//! Escapes in values (RFC 4514, section 2.4).
+
 ghost use Rattle.std.specs.Prelude.{◌≡◌, ◌+◌, ◌++◌, ◌<◌, ◌^◌, length, IfSome, OnOk};
 ghost use Rattle.std.specs.Option.{option_to_list};
 ghost use Rattle.dn_text.specs.Escape.{is_special, is_refused, hex_digit, hex_byte, after_slash, after_digit, next_escape, next_byte, ended, escapes_from, value_of};

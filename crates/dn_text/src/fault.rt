@@ -1,3 +1,5 @@
+//! Why a text is no name.
+
 ghost use Rattle.std.specs.Prelude.{◌≡◌};
 ghost use Rattle.dn_text.specs.declared.fault.DnFault.TheVariants as fault;
 

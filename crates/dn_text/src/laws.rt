@@ -1,3 +1,5 @@
+//! What reading and printing are to one another.
+
 ghost use Rattle.std.specs.Prelude.{◌≡◌, ℕ, List, Ok};
 ghost use Rattle.dn_text.specs.declared.name.Dn.{Dn};
 ghost use Rattle.dn_text.specs.Below.{keys_of, StandsAbove};

@@ -1,3 +1,5 @@
+//! `Dn` and `read_dn`: a whole name.
+
 ghost use Rattle.std.specs.Prelude.{◌≡◌, IfOk, IsOkUnless};
 ghost use Rattle.dn_text.specs.Fault.{Gives};
 ghost use Rattle.dn_text.specs.Split.{pieces};

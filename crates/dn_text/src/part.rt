@@ -1,3 +1,5 @@
+//! One attribute and value of a name.
+
 ghost use Rattle.std.specs.Prelude.{◌≡◌, ◌+◌, ◌<◌, ◌^◌, length, bytes_eq};
 ghost use Rattle.attr_keys.specs.Table.{kind_of};
 ghost use Rattle.attr_keys.specs.Value.{bad_value};

@@ -1,3 +1,5 @@
+//! Printing a name.
+
 ghost use Rattle.std.specs.Prelude.{◌≡◌, ◌+◌, ◌++◌, ◌∷◌, [], ◌==◌, ◌&&◌, length, map, codes, IfOk, OnOk};
 ghost use Rattle.hex.specs.Hex.{encode_lower};
 ghost use Rattle.repl_data.specs.Text.{escape_always, escape_as_hex, escaped, escaped_rest, escaped_value, ava_text, joined, rdn_text};

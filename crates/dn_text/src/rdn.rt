@@ -1,3 +1,5 @@
+//! A relative name, its parts put in order.
+
 ghost use Rattle.std.specs.Prelude.{◌≡◌, ◌+◌, ◌≤◌, ◌<◌, ◌^◌, [], length, OnOk};
 ghost use Rattle.dn_text.specs.Fault.{Gives};
 ghost use Rattle.dn_text.specs.Split.{pieces};

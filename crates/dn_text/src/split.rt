@@ -1,3 +1,5 @@
+//! Cutting a text at its unescaped separators, and taking spaces off.
+
 ghost use Rattle.std.specs.Prelude.{◌≡◌, ℕ, ◌+◌, ◌≤◌, ◌<◌, ◌^◌, [], ◌∷◌, length, false, IfNone, IfSome};
 ghost use Rattle.dn_text.specs.Split.{is_bare, escapes_next, bare_len, space_count, kept_len, trimmed, pieces};
 

@@ -1,3 +1,5 @@
+//! The suffix of a directory, read from a text.
+
 ghost use Rattle.dn_text.specs.Fault.{Gives};
 ghost use Rattle.dn_text.specs.Suffix.{suffix_of, suffix_in};
 

@@ -1,3 +1,5 @@
+//! Rows in memory without faults.
+
 ghost use Rattle.std.specs.Prelude.{List, ◌++◌, ◌∷◌, ◌≡◌, ◌≢◌, [], Some, Ok, Err, IfOk, OnOk, OnErr};
 ghost use Rattle.keeper_core.specs.declared.row.BatchStep.{BatchStep};
 ghost use Rattle.keeper_core.specs.Accepted.{after_batches};

@@ -1,3 +1,5 @@
+//! The trait of a keeper, and its faults.
+
 ghost use Rattle.std.specs.Prelude.{◌≡◌, ◌++◌, ◌∷◌, [], List, ℕ, Option, OnOk, OnErr, IfOk};
 ghost use Rattle.keeper_core.specs.declared.row.BatchStep.{BatchStep};
 ghost use Rattle.keeper_core.specs.Accepted.{AreLeft};

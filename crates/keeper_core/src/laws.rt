@@ -1,3 +1,5 @@
+//! What a batch leaves under each key.
+
 ghost use Rattle.std.specs.Prelude.{◌≡◌, List, ◌++◌, ◌∷◌, Some, None, ℕ, false};
 ghost use Rattle.std.specs.List.{list_any};
 ghost use Rattle.keeper_core.specs.declared.row.RowKey.{RowKey};

@@ -1,3 +1,5 @@
+//! Rows in memory where some calls fail.
+
 ghost use Rattle.std.specs.Prelude.{List, ◌≡◌, ◌↔◌, ◌+◌, ◌-◌, ◌^◌, ◌++◌, ◌∷◌, [], min, Some, Ok, Err, IfOk, OnOk, OnErr};
 ghost use Rattle.io_edge.specs.Memory.{NextFails};
 ghost use Rattle.keeper_core.specs.declared.row.BatchStep.{BatchStep};

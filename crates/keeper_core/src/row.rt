@@ -1,3 +1,5 @@
+//! Keys, rows, and the steps of a batch.
+
 ghost use Rattle.std.specs.Prelude.{◌≡◌};
 ghost use Rattle.keeper_core.specs.Rows.{key_cmp};
 

@@ -1,3 +1,5 @@
+//! Rows in order: a search by halves, a put, a remove, a batch.
+
 ghost use Rattle.std.specs.Prelude.{◌≡◌, ◌+◌, ◌<◌, ◌≤◌, ◌↔◌, length, IfOk, OnOk, OnErr, true, false, IsTrue, vec_len, vec_capacity};
 ghost use Rattle.std.specs.List.{AllWithin, HoldsAt};
 ghost use Rattle.std.specs.Ordering.{is_lt};

@@ -1,3 +1,5 @@
+//! Elements and integers in the writer's form alone.
+
 ghost use Rattle.std.specs.Prelude.{◌≡◌, length};
 ghost use Rattle.ber_core.specs.Number.{drop_zeros, sign_byte, drop_needless, shortest_integer};
 ghost use Rattle.ldap_requests.specs.Cursor.{Gives, pair, window, with_window};

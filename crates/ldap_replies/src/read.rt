@@ -1,3 +1,5 @@
+//! Reading a reply, and the laws of both ways.
+
 ghost use Rattle.std.specs.Prelude.{◌≡◌, ◌≤◌, ◌++◌, List, ℕ, length, take, IfOk, Ok};
 ghost use Rattle.ldap_types.specs.declared.reply.Reply.{Reply};
 ghost use Rattle.ldap_requests.specs.Cursor.{Gives, pair, window, with_window};

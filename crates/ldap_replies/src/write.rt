@@ -1,3 +1,5 @@
+//! Writing a reply.
+
 ghost use Rattle.std.specs.Prelude.{◌≡◌, ◌++◌, IfOk, OnOk, OnErr};
 ghost use Rattle.std.specs.List.{flat_map};
 ghost use Rattle.ldap_replies.specs.Form.{octet_string, enumerated, optional, ldap_result, partial_attribute, partial_attribute_list, protocol_op, reply_bytes};

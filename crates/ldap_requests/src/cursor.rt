@@ -1,3 +1,5 @@
+//! A place inside an element.
+
 ghost use Rattle.std.specs.Prelude.{◌≡◌, ◌+◌, ◌<◌, ◌≤◌, ◌^◌};
 
 use crate::fault::{NotLdapWhy, ReadFault};

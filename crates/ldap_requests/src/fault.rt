@@ -1,3 +1,5 @@
+//! Why bytes are no request, or none yet.
+
 ghost use Rattle.std.specs.Prelude.{◌≡◌};
 ghost use Rattle.ldap_requests.specs.declared.fault.ReadFault.TheVariants as fault;
 

@@ -1,3 +1,5 @@
+//! Filters of searches.
+
 ghost use Rattle.std.specs.Prelude.{◌≡◌};
 ghost use Rattle.ldap_requests.specs.Cursor.{Gives, window, with_window};
 ghost use Rattle.ldap_requests.specs.Grammar.{pieces, substrings_inside, simple_inside, filter_inside, filter_at, is_filter_tag};

@@ -1,3 +1,5 @@
+//! A whole message: its id, its operation, its controls.
+
 ghost use Rattle.std.specs.Prelude.{◌≡◌, ◌≤◌, ◌⊎◌, ◌++◌, List, ℕ, Ok, Err, length, take, IfOk};
 ghost use Rattle.ldap_requests.specs.Cursor.{Gives, pair, window, with_window};
 ghost use Rattle.ldap_requests.specs.Grammar.{message_id, control_inside, control, request_inside, request_at, outermost};

@@ -1,3 +1,5 @@
+//! The operations, one function each.
+
 ghost use Rattle.std.specs.Prelude.{◌≡◌};
 ghost use Rattle.ldap_requests.specs.Cursor.{Gives, window, with_window};
 ghost use Rattle.ldap_requests.specs.Grammar.{auth, sasl, bind_inside, unbind_inside, delete_inside, abandon_inside, add_inside, search_inside, modification_inside, modification, modify_inside, rename_inside, compare_inside, extended_inside, is_op_tag, op_inside, operation};

@@ -1,3 +1,5 @@
+//! Parts that operations share: attributes, assertions, texts.
+
 ghost use Rattle.std.specs.Prelude.{◌≡◌};
 ghost use Rattle.ldap_requests.specs.Cursor.{Gives, window, with_window};
 ghost use Rattle.ldap_requests.specs.Grammar.{text, attribute, attribute_inside, count, assertion};

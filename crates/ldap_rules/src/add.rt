@@ -1,3 +1,5 @@
+//! The cases of an add.
+
 ghost use Rattle.std.specs.Prelude.{◌≡◌, ◌∷◌, is_some, IfOk};
 ghost use Rattle.repl_data.specs.View.{child_of};
 ghost use Rattle.ldap_rules.specs.Case.{Gives};

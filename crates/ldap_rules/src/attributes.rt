@@ -1,3 +1,5 @@
+//! Attributes and values, each read beside those before it.
+
 ghost use Rattle.std.specs.Prelude.{◌≡◌, ◌&&◌, ◌∷◌, [], List, Ok, IfOk, OnOk};
 ghost use Rattle.std.specs.List.{list_any};
 ghost use Rattle.repl_data.specs.declared.change.Val.{Val};

@@ -1,3 +1,5 @@
+//! Whom a bind names.
+
 ghost use Rattle.std.specs.Prelude.{◌≡◌, Ok, IfOk, ◌&&◌, pos, if◌then◌else◌};
 ghost use Rattle.std.specs.Ordering.{int_eq};
 ghost use Rattle.dn_text.specs.Reading.{dn_in};

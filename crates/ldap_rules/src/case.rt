@@ -1,3 +1,5 @@
+//! Results of cases.
+
 ghost use Rattle.std.specs.Prelude.{◌≡◌};
 ghost use Rattle.ldap_rules.specs.Case.{result_of, no_such_object, refuse_if, Gives};
 

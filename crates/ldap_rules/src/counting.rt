@@ -1,3 +1,5 @@
+//! How many attributes an add has.
+
 ghost use Rattle.std.specs.Prelude.{◌≡◌, ◌+◌, ◌<◌, ◌^◌, IfOk, length, map, nat_lt, not, OnOk, if◌then◌else◌};
 ghost use Rattle.repl_data.specs.declared.change.Ava.{Ava};
 ghost use Rattle.repl_data.specs.Order.{bytes_cmp, in_order};

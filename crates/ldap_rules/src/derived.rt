@@ -1,3 +1,5 @@
+//! Attributes and classes that a view derives.
+
 ghost use Rattle.std.specs.Prelude.{◌≡◌, ◌||◌, ◌&&◌};
 ghost use Rattle.std.specs.List.{list_any};
 ghost use Rattle.repl_data.specs.Types.{is_derived_attribute, is_derived_value, is_derived_ava};

@@ -1,3 +1,5 @@
+//! What a judgement is: a refusal, or a body to write.
+
 ghost use Rattle.std.specs.Prelude.{◌≡◌};
 ghost use Rattle.ldap_rules.specs.declared.fault.JudgeFault.TheVariants as fault;
 

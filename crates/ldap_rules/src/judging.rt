@@ -1,3 +1,5 @@
+//! `judge`: the cases of all writes, those of the operation, and the last one.
+
 ghost use Rattle.std.specs.Prelude.{◌≡◌, ◌&&◌, false, not, IsTrue, nat_lt};
 ghost use Rattle.repl_data.specs.Check.{weight};
 ghost use Rattle.std.specs.List.{list_any};

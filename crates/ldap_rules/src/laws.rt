@@ -1,3 +1,5 @@
+//! What the rules write.
+
 ghost use Rattle.std.specs.Prelude.{◌≡◌, ℕ, true, None, Option, List};
 ghost use Rattle.repl_data.specs.declared.csn.Csn.{Csn};
 ghost use Rattle.repl_data.specs.declared.csn.Uid.{Uid};

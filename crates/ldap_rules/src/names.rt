@@ -1,3 +1,5 @@
+//! Names below the suffix.
+
 ghost use Rattle.std.specs.Prelude.{◌≡◌, ◌≤◌, IfOk, IfSome, length, take, Ok, Option, List};
 ghost use Rattle.dn_text.specs.Reading.{dn_in};
 ghost use Rattle.ldap_rules.specs.Case.{Gives};

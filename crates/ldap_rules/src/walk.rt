@@ -1,3 +1,5 @@
+//! The walk from the suffix to the entry of a name.
+
 ghost use Rattle.std.specs.Prelude.{◌≡◌, IfOk};
 ghost use Rattle.repl_data.specs.Order.{suffix_id};
 ghost use Rattle.ldap_rules.specs.Case.{Gives};

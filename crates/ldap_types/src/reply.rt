@@ -1,3 +1,5 @@
+//! Replies, results and codes (RFC 4511, sections 4.1.9 and 4.2 to 4.12).
+
 use crate::request::RawAttrList;
 use repl_data::Bytes;
 

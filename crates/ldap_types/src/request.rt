@@ -1,3 +1,5 @@
+//! Requests, their operations, filters and controls (RFC 4511, section 4).
+
 use repl_data::{Bytes, BytesList, Items};
 use sqlite_items::Boxed;
 

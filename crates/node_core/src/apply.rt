@@ -1,3 +1,5 @@
+//! An update of another node, by its eight cases.
+
 ghost use Rattle.std.specs.Prelude.{◌≡◌, ◌≢◌, ◌↔◌, Ok, Err, Some, None, IfOk, OnOk, OnErr, IfErr, IsTrue, Contains, false};
 ghost use Rattle.std.specs.Option.{option_copied};
 ghost use Rattle.repl_data.specs.Closed.{is_known, needed};

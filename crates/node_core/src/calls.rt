@@ -1,3 +1,5 @@
+//! The trait of whatever stands for a node.
+
 ghost use Rattle.std.specs.Prelude.{◌≡◌, ◌≢◌, ◌≤◌, IfOk, MatchResult};
 ghost use Rattle.node_core.specs.Node.{vector_of};
 ghost use Rattle.node_core.specs.Steps.{judge_view, ended, released};

@@ -1,3 +1,5 @@
+//! A commit, by its cases in order.
+
 ghost use Rattle.std.specs.Prelude.{false, ◌≡◌, ◌≢◌, Ok, Err, Some, None, option_map, if◌then◌else◌, OnOk, OnErr, MatchResult, ◌++◌, ◌∷◌, [], Contains};
 ghost use Rattle.repl_data.specs.Order.{csn_eq};
 ghost use Rattle.repl_data.specs.Closed.{needed};

@@ -1,3 +1,5 @@
+//! Why a begin or a commit fails.
+
 use ldap_types::LdapResult;
 
 /// Why no ticket is given.

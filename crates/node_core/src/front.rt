@@ -1,3 +1,5 @@
+//! The update vector, and offers.
+
 ghost use Rattle.std.specs.Prelude.{◌≡◌, IfOk};
 ghost use Rattle.node_core.specs.Node.{front, vector_of};
 ghost use Rattle.node_core.specs.Calls.{Offers};

@@ -1,3 +1,5 @@
+//! What a node keeps through its steps.
+
 ghost use Rattle.std.specs.Prelude.{◌≡◌, ℕ, ◌<◌, ◌≤◌, true, Bool, List, Contains, Option, Some};
 ghost use Rattle.repl_data.specs.declared.csn.Csn.{Csn};
 ghost use Rattle.repl_data.specs.declared.csn.Uid.{Uid};

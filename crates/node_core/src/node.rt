@@ -1,3 +1,5 @@
+//! `NodeState`: its making, begin, abort, settle, acquire, release.
+
 ghost use Rattle.std.specs.Prelude.{◌≡◌, ◌≢◌, ◌<◌, length, Ok, Err, Some, None, option_map, IfOk, MatchOption};
 ghost use Rattle.repl_data.specs.Order.{bytes_eq};
 ghost use Rattle.repl_data.specs.View.{view_of, dump_of};

@@ -1,3 +1,5 @@
+//! `NodeState` as one of the trait of nodes.
+
 use crate::calls::NodeCalls;
 use crate::fault::{BeginFault, CommitFault};
 use crate::node::NodeState;

@@ -1,3 +1,5 @@
+//! The view of a node, which grows with its log.
+
 ghost use Rattle.std.specs.Prelude.{◌≡◌, true, IsTrue, IfOk, OnOk, OnErr, Contains, ◌++◌, ◌∷◌, [], List};
 ghost use Rattle.std.specs.List.{list_any};
 ghost use Rattle.repl_data.specs.declared.change.Change.{Change};

@@ -1,3 +1,5 @@
+//! Tickets and receipts, which have to be spent.
+
 ghost use Rattle.std.specs.Prelude.{◌≡◌};
 
 use repl_data::Csn;

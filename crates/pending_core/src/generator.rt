@@ -1,3 +1,5 @@
+//! The generator of CSNs.
+
 ghost use Rattle.std.specs.Prelude.{◌≡◌, ℕ, ◌<◌, ◌^◌, ◌↔◌, true, Some, None, Ok, Err, OnErr, MatchResult};
 ghost use Rattle.repl_data.specs.declared.csn.Csn.{Csn};
 ghost use Rattle.repl_data.specs.Order.{csn_lt};

@@ -1,3 +1,5 @@
+//! Copies of what a view keeps.
+
 ghost use Rattle.std.specs.Prelude.{◌≡◌, ◌++◌, ◌∷◌, [], IfOk, OnOk, Bool, if◌then◌else◌};
 ghost use Rattle.std.specs.Option.{option_to_list, option_copied};
 

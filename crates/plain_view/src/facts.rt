@@ -1,3 +1,5 @@
+//! What is known of each entry.
+
 ghost use Rattle.std.specs.Prelude.{◌≡◌, ◌++◌, ◌∷◌, [], ◌^◌, ◌<◌, option_map, IfOk, OnOk, List, map, flat_map, filter, length, codes, if◌then◌else◌};
 ghost use Rattle.std.specs.Option.{option_to_list, option_copied};
 ghost use Rattle.repl_data.specs.declared.change.Change.{Change};

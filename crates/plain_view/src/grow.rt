@@ -1,3 +1,5 @@
+//! The view after one add more.
+
 ghost use Rattle.std.specs.Prelude.{◌≡◌, ◌++◌, ◌∷◌, [], ◌≤◌, ◌&&◌, not, true, false, ℕ, Bool, List, IsTrue, IfOk, OnOk, OnErr, length, filter, map, insert, if◌then◌else◌};
 ghost use Rattle.std.specs.List.{list_any, list_all};
 ghost use Rattle.std.specs.List.Sorted.{IsPartitionPoint};

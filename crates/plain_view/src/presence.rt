@@ -1,3 +1,5 @@
+//! Which entries are present.
+
 ghost use Rattle.std.specs.Prelude.{◌≡◌, ◌∷◌, [], ◌||◌, ◌&&◌, not, IfOk, OnOk, List, filter};
 ghost use Rattle.std.specs.List.{list_any};
 ghost use Rattle.repl_data.specs.Order.{uid_eq, suffix_id};

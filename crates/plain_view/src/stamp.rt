@@ -1,3 +1,5 @@
+//! Stamps of acts.
+
 ghost use Rattle.std.specs.Prelude.{◌≡◌, ℕ};
 ghost use Rattle.repl_data.specs.Order.{csn_cmp, csn_lt, csn_eq, csn_le, zero_csn, stamp};
 

@@ -1,3 +1,5 @@
+//! Names, values, changes and updates.
+
 use crate::csn::{Csn, Uid};
 use crate::items::{Bytes, BytesList, Items};
 

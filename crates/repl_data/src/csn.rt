@@ -1,3 +1,5 @@
+//! CSNs and ids, their bytes and texts.
+
 ghost use Rattle.std.specs.Prelude.{◌≡◌, ℕ, List, ◌↔◌, length, IsSome, IfSome};
 ghost use Rattle.std.specs.List.{AllPass};
 ghost use Rattle.std.specs.Result.{result_ok};

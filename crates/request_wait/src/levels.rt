@@ -1,3 +1,5 @@
+//! The elements around a place.
+
 ghost use Rattle.std.specs.Prelude.{◌≡◌, ◌++◌, ◌∷◌, [], MatchOption};
 ghost use Rattle.std.specs.Bool.{OnTrue, OnFalse};
 

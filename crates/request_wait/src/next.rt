@@ -1,3 +1,5 @@
+//! One step of the place.
+
 ghost use Rattle.std.specs.Prelude.{◌≡◌};
 ghost use Rattle.ldap_requests.specs.Cursor.{Gives, window};
 ghost use Rattle.ldap_requests.specs.Window.{ended};

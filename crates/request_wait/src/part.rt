@@ -1,3 +1,5 @@
+//! The grammar as a table: what stands first in each part of a request.
+
 ghost use Rattle.std.specs.Prelude.{◌≡◌};
 ghost use Rattle.request_wait.specs.Table.{operation_content, auth_content, filter_content, simple_content};
 

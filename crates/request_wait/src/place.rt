@@ -1,3 +1,5 @@
+//! A place in the bytes.
+
 ghost use Rattle.std.specs.Prelude.{◌≡◌};
 
 use crate::part::Part;

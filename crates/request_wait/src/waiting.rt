@@ -1,3 +1,5 @@
+//! The place and its steps, beside bytes that are kept elsewhere.
+
 ghost use Rattle.std.specs.Prelude.{◌≡◌, IsTrue, Err};
 ghost use Rattle.ldap_requests.specs.Window.{More as Missing};
 ghost use Rattle.ldap_requests.specs.Grammar.{request_at};

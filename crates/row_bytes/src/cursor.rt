@@ -1,3 +1,5 @@
+//! A place inside an element whose bytes are all there.
+
 ghost use Rattle.std.specs.Prelude.{◌≡◌, ◌+◌, ◌<◌, ◌≤◌, ◌^◌, length};
 ghost use Rattle.ber_core.specs.Number.{drop_zeros};
 ghost use Rattle.row_bytes.specs.Place.{header_bytes};

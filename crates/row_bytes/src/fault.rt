@@ -1,3 +1,5 @@
+//! Why bytes are no row.
+
 ghost use Rattle.std.specs.Prelude.{◌≡◌};
 ghost use Rattle.row_bytes.specs.declared.fault.RowFault.TheVariants as fault;
 

@@ -1,3 +1,5 @@
+//! The ten bytes of a CSN as a key.
+
 ghost use Rattle.std.specs.Prelude.{◌≡◌, length, ◌==◌, Option, Some, None, if◌then◌else◌};
 ghost use Rattle.repl_data.specs.Text.{csn_bytes, csn_of};
 

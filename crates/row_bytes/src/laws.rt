@@ -1,3 +1,5 @@
+//! What changes and their rows are to one another.
+
 ghost use Rattle.row_bytes.specs.Laws.{IsReadBack, IsFoundAgain, NoneIsPrefix, AreInOrder};
 
 /// What changes and their rows are to one another.

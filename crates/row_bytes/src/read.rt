@@ -1,3 +1,5 @@
+//! Bytes to a change, or the first fault.
+
 ghost use Rattle.std.specs.Prelude.{◌≡◌, IfOk, Ok};
 ghost use Rattle.repl_data.specs.declared.change.Change.{Change};
 ghost use Rattle.row_bytes.specs.Form.{row_of, IsChangeInRange};

@@ -1,3 +1,5 @@
+//! Rows under their kind and key.
+
 ghost use Rattle.std.specs.Prelude.{◌≡◌, IfOk, Ok};
 ghost use Rattle.repl_data.specs.declared.change.Change.{Change};
 ghost use Rattle.repl_data.specs.Order.{bytes_eq};

@@ -1,3 +1,5 @@
+//! A change to bytes.
+
 ghost use Rattle.std.specs.Prelude.{◌≡◌, ◌++◌, IfOk, OnOk};
 ghost use Rattle.std.specs.List.{flat_map};
 ghost use Rattle.row_bytes.specs.Form.{integer, csn_string, val_bytes, vals_bytes, ava_bytes, avas_bytes, attr_bytes, attrs_bytes, kind_number, mod_bytes, body_bytes, row_of};

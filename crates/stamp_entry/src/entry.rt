@@ -1,3 +1,5 @@
+//! The stamped entry, its Add, and one change more.
+
 ghost use Rattle.std.specs.Prelude.{◌≡◌, ◌++◌, ◌∷◌, [], List, map, true, IfOk, IsTrue};
 ghost use Rattle.repl_data.specs.declared.change.Change.{Change};
 ghost use Rattle.repl_data.specs.declared.change.Suffix.{Suffix};

@@ -1,3 +1,5 @@
+//! The law of one change more.
+
 ghost use Rattle.std.specs.Prelude.{◌≡◌, ◌++◌, ◌∷◌, [], List, IsTrue};
 ghost use Rattle.repl_data.specs.declared.csn.Uid.{Uid};
 ghost use Rattle.repl_data.specs.declared.change.Change.{Change};

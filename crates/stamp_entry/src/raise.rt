@@ -1,3 +1,5 @@
+//! What the acts of a change do to attributes and values.
+
 ghost use Rattle.std.specs.Prelude.{◌≡◌, ◌≤◌, ◌<◌, ◌++◌, ◌∷◌, [], ℕ, List, map, flat_map, length, OnOk, IfOk, IsTrue};
 ghost use Rattle.repl_data.specs.declared.change.AttrKey.{AttrKey};
 ghost use Rattle.repl_data.specs.declared.change.Ava.{Ava};

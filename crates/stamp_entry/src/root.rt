@@ -1,3 +1,5 @@
+//! The suffix entry before any change.
+
 ghost use Rattle.std.specs.Prelude.{◌≡◌, ◌∷◌, [], codes, IfOk, OnOk};
 ghost use Rattle.repl_data.specs.declared.change.AttrKey.{AttrKey};
 ghost use Rattle.repl_data.specs.Order.{suffix_id};

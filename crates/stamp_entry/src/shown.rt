@@ -1,3 +1,5 @@
+//! Which values show.
+
 ghost use Rattle.std.specs.Prelude.{◌≡◌, ◌∷◌, [], ◌||◌, ◌&&◌, ◌==◌, ℕ, not, IfOk, OnOk, List, ◌++◌, position, map, flat_map, filter, codes, if◌then◌else◌};
 ghost use Rattle.std.specs.List.{list_any, before_first};
 ghost use Rattle.std.specs.Ordering.{is_lt};

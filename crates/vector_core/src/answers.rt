@@ -1,3 +1,5 @@
+//! What suppliers and consumers answer each other.
+
 use crate::vector::Vector;
 use repl_data::{Bytes, Csn, Malformed, Uid, Update};
 

@@ -1,3 +1,5 @@
+//! Vectors as texts.
+
 ghost use Rattle.std.specs.Prelude.{◌≡◌, ◌≢◌, ◌++◌, ◌∷◌, [], List, map, Ok, Some, None, OnOk, IfOk, IfSome};
 ghost use Rattle.repl_data.specs.declared.csn.Csn.{Csn};
 ghost use Rattle.repl_data.specs.Text.{IsInRange, csn_text};

@@ -1,3 +1,5 @@
+//! The update vector.
+
 ghost use Rattle.std.specs.Prelude.{◌≡◌, ◌≢◌, ℕ, ◌+◌, ◌<◌, ◌≤◌, ◌↔◌, ◌⊎◌, ◌++◌, ◌∷◌, [], List, true, length, slice_index_or, Contains, IsOk, IfOk, OnOk, OnErr, MatchOption, vec_len, vec_capacity};
 ghost use Rattle.repl_data.specs.declared.csn.Csn.{Csn};
 ghost use Rattle.repl_data.specs.Order.{csn_le, zero_csn};

@@ -1,3 +1,5 @@
+//! A node of a world, reached by the calls of a node.
+
 ghost use Rattle.std.specs.Prelude.{◌≡◌, true};
 ghost use Rattle.world_core.specs.World.{is_node};
 

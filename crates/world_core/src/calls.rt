@@ -1,3 +1,5 @@
+//! The calls at one node of a world.
+
 ghost use Rattle.std.specs.Prelude.{◌≡◌, ◌≢◌, ◌<◌, true, Err, IfOk, IfErr};
 ghost use Rattle.node_core.specs.Node.{vector_of};
 ghost use Rattle.node_core.specs.Steps.{judge_view, ended, released};

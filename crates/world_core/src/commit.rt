@@ -1,3 +1,5 @@
+//! A commit of a ticket.
+
 ghost use Rattle.std.specs.Prelude.{◌≡◌, ◌≢◌, ◌==◌, false, IfOk, IfSome, OnErr, IsSome, IsErr, Some, Ok, position};
 ghost use Rattle.node_core.specs.Node.{Node};
 ghost use Rattle.node_core.specs.Sound.{IsOpen};

@@ -1,3 +1,5 @@
+//! How tickets end: settle, abort, and the end of a world.
+
 ghost use Rattle.std.specs.Prelude.{◌≡◌, ◌==◌, false, true, [], ◌<◌, Contains, Option, Some, position, vec_len};
 ghost use Rattle.ldap_types.specs.declared.reply.LdapResult.{LdapResult};
 ghost use Rattle.change_log.specs.Log.{csns_of};

@@ -1,3 +1,5 @@
+//! Events, and what becomes of them.
+
 use ldap_types::{Identity, LdapResult, Request};
 use node_core::{AcquireFault, Applied, ApplyFault};
 use repl_data::{Csn, Items, ShownEntryList};

@@ -1,3 +1,5 @@
+//! A ticket that the world holds.
+
 ghost use Rattle.std.specs.Prelude.{◌≡◌};
 
 use ldap_types::{Identity, LdapResult, Request};

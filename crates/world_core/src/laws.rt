@@ -1,3 +1,5 @@
+//! What holds after every run.
+
 ghost use Rattle.node_core.specs.Steps.{Judge, judge_view};
 ghost use Rattle.world_core.specs.World.{World, Deed, after};
 ghost use Rattle.world_core.specs.Laws.{IsLawful, May, IsHonestDeed, IsHonest, law_of_draws, law_of_own_entries, law_of_prefixes, law_of_closed, law_of_forms, law_of_agreement, law_of_views, law_of_writes, IsSoundJudge};

@@ -1,3 +1,5 @@
+//! One step of one node of the world.
+
 ghost use Rattle.std.specs.Prelude.{◌≡◌, ◌≢◌, ◌<◌, ◌&&◌, ◌↔◌, nat_lt, nat_le, length, IfOk, IfErr, Err, IsTrue};
 ghost use Rattle.node_core.specs.Steps.{judge_view, ended, released};
 ghost use Rattle.node_core.specs.Calls.{Begins, Commits, IsWrite, IsPending, IsPendingTaken, Acquires, Applies};

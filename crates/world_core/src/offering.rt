@@ -1,3 +1,5 @@
+//! Sessions, offers, deliveries.
+
 ghost use Rattle.std.specs.Prelude.{◌≡◌, ◌+◌, ◌<◌, ◌&&◌, ◌∷◌, ◌++◌, [], length, slice_index_or, true, Some, None, Err, MatchOption, ◌≢◌, IfOk, OnErr, vec_len, vec_capacity};
 ghost use Rattle.vector_core.specs.Vector.{IsVector, IsRaised};
 ghost use Rattle.node_core.specs.Node.{vector_of};

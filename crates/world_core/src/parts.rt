@@ -1,3 +1,5 @@
+//! Sessions and offered updates.
+
 use repl_data::Update;
 use vector_core::Vector;
 

@@ -1,3 +1,5 @@
+//! Where tickets and sessions stand.
+
 ghost use Rattle.std.specs.Prelude.{◌≡◌, ◌<◌, ◌≤◌, ◌&&◌, nat_le, ◌==◌, length, position, find, slice_index_or, Some, None, MatchOption, vec_len, vec_capacity};
 ghost use Rattle.std.specs.List.{position_or_len};
 ghost use Rattle.world_core.specs.World.{Ticket, Session, with_ticket};

@@ -1,3 +1,5 @@
+//! What holds of sessions.
+
 ghost use Rattle.world_core.specs.Sessions.{law_of_sessions, law_of_progress, law_of_cursors};
 
 /// What holds of sessions, after every run in which each update that a client feeds is one that some node had offered.

@@ -1,3 +1,5 @@
+//! The start of a ticket.
+
 ghost use Rattle.std.specs.Prelude.{◌≡◌, ℕ, ◌<◌, false, None, Err, IfOk, OnErr, find, ◌==◌, vec_len, vec_capacity};
 ghost use Rattle.ldap_types.specs.declared.request.Request.{Request};
 ghost use Rattle.ldap_types.specs.declared.reply.Identity.{Identity};

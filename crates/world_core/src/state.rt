@@ -1,3 +1,5 @@
+//! The parts of a world, and the look-ups.
+
 ghost use Rattle.std.specs.Prelude.{◌≡◌, ◌↔◌, IsTrue, is_some, option_map};
 ghost use Rattle.world_core.specs.World.{Ticket, is_node, ticket_in, session_in, update_in};
 ghost use Rattle.world_core.specs.Laws.{IsNode};

@@ -1,3 +1,5 @@
+//! What is asked of a node: its vector, its entries.
+
 ghost use Rattle.std.specs.Prelude.{◌≡◌, IfOk};
 ghost use Rattle.repl_data.specs.View.{view_of, dump_of};
 ghost use Rattle.node_core.specs.Node.{vector_of};

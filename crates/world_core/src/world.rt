@@ -1,3 +1,5 @@
+//! `World`.
+
 ghost use Rattle.std.specs.Prelude.{◌≡◌, ◌≤◌, true, is_some, option_map, IfOk, OnErr};
 ghost use Rattle.repl_data.specs.declared.change.Suffix.{Suffix};
 ghost use Rattle.node_core.specs.Steps.{judge_view};
