@@ -113,6 +113,22 @@ fn joined(lock: &SeatLock<Notes>, mut seats: Vec<Seat<Notes>>) -> Option<Seat<No
     Some(whole)
 }
 
+/// All seats take their turns, and are then one.
+fn worked<R: Threads + Wait + Sync>(
+    rt: &R,
+    lock: &SeatLock<Notes>,
+    mut seats: Vec<Seat<Notes>>,
+    task: Task,
+    turns: u32,
+) -> Option<Seat<Notes>>
+    requires { All (IsReady lock.now) seats.items }
+    ensures some { IfSome result (λ s. IsOf lock.now s × IsIdle s × (length (numbers s) ≡ vec_len seats)) }
+    ensures none { IfNone result (vec_len seats ≡ 0) }
+{
+    take_all(rt, lock, seats.as_mut_slice(), task, turns);
+    joined(lock, seats)
+}
+
 /// So many threads take turns at one lock, each so many of them. Gives what lay under the lock.
 pub fn take_turns<R: Threads + Wait + Sync>(
     rt: &R,
@@ -131,11 +147,10 @@ pub fn take_turns<R: Threads + Wait + Sync>(
         Ok(made) => made,
         Err((none, _)) => return Err(none),
     };
-    let Ok(mut seats) = seats_of(alloc, &lock, first, threads) else {
+    let Ok(seats) = seats_of(alloc, &lock, first, threads) else {
         return Err(NoMemory);
     };
-    take_all(rt, &lock, seats.as_mut_slice(), task, turns);
-    let Some(whole) = joined(&lock, seats) else {
+    let Some(whole) = worked(rt, &lock, seats, task, turns) else {
         return Err(NoMemory);
     };
     Ok(lock.close(whole))
