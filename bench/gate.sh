@@ -1,7 +1,8 @@
 #!/bin/sh
 # Runs the gate, or that of the crates named, and prints the processor minutes of each crate: for its
 # proof, its tests and its edits, the dearest first. What earlier runs kept is not counted again, so the
-# first word `--anew` measures all from nothing. The gate's own lines go to the file $GATE_LOG.
+# first word `--anew` measures all from nothing. The gate's own lines go to the file $GATE_LOG. An
+# interrupt ends the gate, and prints what was seen by then.
 set -eu
 cd "$(dirname "$0")/.."
 exec python3 - "$@" <<'END'
@@ -27,13 +28,12 @@ def work_of(pid):
     try:
         with open(f"/proc/{pid}/cmdline") as file:
             words = file.read().split("\0")
-        where = os.readlink(f"/proc/{pid}/cwd")
     except OSError:
         return None
     if "--crate-name" not in words[:-1]:
         return None
     crate = words[words.index("--crate-name") + 1]
-    if "must-fail" in where or ".edit" in where:
+    if any("edits" in word for word in words):
         return crate, "edits"
     return (crate, "tests") if "--test" in words else (crate, "proof")
 
@@ -55,9 +55,13 @@ def main():
     works, seconds = {}, {}
     with open(LOG, "w") as log:
         gate = subprocess.Popen(["rt", "ci", *sys.argv[1:]], stdout=log, stderr=subprocess.STDOUT)
-        while gate.poll() is None:
-            look(gate.pid, works, seconds)
-            time.sleep(0.2)
+        try:
+            while gate.poll() is None:
+                look(gate.pid, works, seconds)
+                time.sleep(0.2)
+        except KeyboardInterrupt:
+            gate.terminate()
+            gate.wait()
     table = {}
     for key, used in seconds.items():
         crate, phase = works[key] or ("(the rest)", "proof")
