@@ -20,6 +20,3 @@ pub use fault::{JudgeFault, Judged};
 pub use judging::{UPDATE_CONTROL, is_built, is_update, judge};
 pub use laws::rule_laws;
 pub use ldap_types::Identity;
-
-#[cfg(test)]
-mod tests;
