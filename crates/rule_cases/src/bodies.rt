@@ -1,0 +1,85 @@
+//! What an add writes.
+
+use crate::adds::judged;
+use crate::requests::read_add;
+use case_lines::{CaseFault, Fields};
+use case_views::tell_optional_uid;
+use ldap_rules::{Identity, JudgeFault, Judged};
+use plain_view::PlainView;
+use repl_data::{Attr, Body, Bytes, Rdn, Suffix, Val};
+use std::alloc::Global;
+use std::str;
+
+fn tell(told: &mut String, text: &Bytes) -> Result<(), CaseFault> {
+    match str::from_utf8(text.as_slice()) {
+        Ok(text) => {
+            told.push_str(text)?;
+            Ok(())
+        }
+        Err(_) => Err(CaseFault::Argument),
+    }
+}
+
+/// Appends the key and the spelling.
+fn tell_val(told: &mut String, val: &Val) -> Result<(), CaseFault> {
+    told.push_str(" ")?;
+    tell(told, &val.key)?;
+    told.push_str("<")?;
+    tell(told, &val.spelled)
+}
+
+/// Appends the parts of the relative name, each with a plus sign behind it.
+fn tell_rdn(told: &mut String, rdn: &Rdn) -> Result<(), CaseFault> {
+    for ava in rdn.avas.as_slice() {
+        tell(told, &ava.attr.name)?;
+        tell_val(told, &ava.val)?;
+        told.push_str("+")?;
+    }
+    Ok(())
+}
+
+/// Appends the attributes, each with a bar before it.
+fn tell_attrs(told: &mut String, attrs: &[Attr]) -> Result<(), CaseFault> {
+    for attr in attrs {
+        told.push_str("|")?;
+        tell(told, &attr.attr.name)?;
+        for val in attr.vals.as_slice() {
+            tell_val(told, val)?;
+        }
+    }
+    Ok(())
+}
+
+/// Appends the parent's id, the relative name and the attributes of an add.
+fn tell_body(told: &mut String, body: &Body) -> Result<(), CaseFault> {
+    match body {
+        Body::Add { parent, rdn, attrs } => {
+            tell_optional_uid(told, Some(*parent))?;
+            told.push_str(" ")?;
+            tell_rdn(told, rdn)?;
+            tell_attrs(told, attrs.as_slice())
+        }
+        _ => Err(CaseFault::Argument),
+    }
+}
+
+/// Appends what is written; a refusal answers no case.
+fn tell_written(told: &mut String, judged: &Result<Judged, JudgeFault>) -> Result<(), CaseFault> {
+    match judged {
+        Ok(Judged::Write { target: None, body }) => tell_body(told, body),
+        _ => Err(CaseFault::Argument),
+    }
+}
+
+/// What the manager's add writes.
+pub fn written(
+    alloc: Global,
+    view: &PlainView,
+    suffix: &Suffix,
+    fields: &mut Fields<'_>,
+    told: &mut String,
+) -> Result<(), CaseFault> {
+    let request = read_add(alloc, fields)?;
+    let judged = judged(alloc, view, suffix, &request, Identity::Manager);
+    tell_written(told, &judged)
+}
