@@ -1,5 +1,6 @@
 pub mod Causes
 pub mod Edge
+pub mod Doors
 pub mod Memory
 pub mod Standard
 pub mod Machine

@@ -1,4 +1,4 @@
-ghost use Rattle.std.specs.Prelude.{◌≡◌, ◌+◌, ◌-◌, ◌^◌, ◌++◌, [], Some, None, drop, length, min, take, IfOk, IsOk, Ok};
+ghost use Rattle.std.specs.Prelude.{◌≡◌, ⊤, ◌+◌, ◌-◌, ◌^◌, ◌++◌, [], Some, None, drop, length, min, take, IfOk, IsOk, Ok};
 
 use crate::bytes::copy_front;
 use crate::edge::{Failed, Sink, Source};
@@ -38,6 +38,10 @@ impl Source for CalmSource<'_> {
     ghost left = { λ s. Some s };
 
     ghost faults = { λ _. 0 };
+
+    ghost Apart = { ⊤ };
+
+    ghost apart = { λ _. tt };
 
     /// Hands over as many bytes as are left and fit. Never fails.
     fn read(&mut self, buf: &mut [u8]) -> Result<usize, Failed>
@@ -87,6 +91,10 @@ impl Sink for CalmSink {
     ghost contents = { λ _. None };
 
     ghost faults = { λ _. 0 };
+
+    ghost Apart = { ⊤ };
+
+    ghost apart = { λ _. tt };
 
     /// Counts the bytes. Never fails.
     fn write(&mut self, bytes: &[u8]) -> Result<(), Failed>

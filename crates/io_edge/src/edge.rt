@@ -1,4 +1,4 @@
-ghost use Rattle.std.specs.Prelude.{◌≤◌, ◌-◌, ◌^◌, List, ℕ, Option, OnOk, OnErr, Some, codes};
+ghost use Rattle.std.specs.Prelude.{◌≡◌, ◌≤◌, ◌-◌, ◌^◌, List, ℕ, Option, OnOk, OnErr, Some, codes};
 ghost use Rattle.std.specs.Io.{ReadsAtMost};
 ghost use Rattle.std.specs.Io.KnownBytes.{ReadConsumes, Appends};
 ghost use Rattle.io_edge.specs.Causes.{HasCause};
@@ -56,6 +56,11 @@ pub trait Source {
     /// How many faults there were. The count stands still at `u64::MAX`.
     ghost faults: { Self → ℕ };
 
+    /// What else there is of it, which a read leaves as it was.
+    ghost Apart: { Type 0 };
+
+    ghost apart: { Self → Apart };
+
     /// Reads the first bytes of what is left into the front of `buf`, and answers how many.
     ///
     /// For a buffer that is not empty, 0 comes only at the end. After [`Failed`] what is left is as
@@ -63,7 +68,8 @@ pub trait Source {
     fn read(&mut self, buf: &mut [u8]) -> Result<usize, Failed>
         ensures bound { ReadsAtMost result buf.new }
         ensures bytes { ReadConsumes (left self.old) (left self.new) result buf.new }
-        ensures cause { HasCause (faults self.old) (faults self.new) result };
+        ensures cause { HasCause (faults self.old) (faults self.new) result }
+        ensures apart { apart self.new ≡ apart self.old };
 }
 
 /// Where bytes go.
@@ -74,11 +80,45 @@ pub trait Sink {
     /// How many faults there were. The count stands still at `u64::MAX`.
     ghost faults: { Self → ℕ };
 
+    /// What else there is of it, which a write leaves as it was.
+    ghost Apart: { Type 0 };
+
+    ghost apart: { Self → Apart };
+
     /// Writes the whole piece.
     ///
     /// After [`Failed`] a prefix of the piece was written, and the count of faults rose.
     fn write(&mut self, bytes: &[u8]) -> Result<(), Failed>
         ensures ok { OnOk result (Appends (contents self.old) (contents self.new) bytes.now) }
         ensures err { OnErr result (AppendsFront (contents self.old) (contents self.new) bytes.now) }
-        ensures cause { HasCause (faults self.old) (faults self.new) result };
+        ensures cause { HasCause (faults self.old) (faults self.new) result }
+        ensures apart { apart self.new ≡ apart self.old };
+}
+
+impl<S: Source> Source for &mut S {
+    ghost left = { λ s. S.left s.now };
+
+    ghost faults = { λ s. S.faults s.now };
+
+    ghost Apart = { S.Apart };
+
+    ghost apart = { λ s. S.apart s.now };
+
+    fn read(&mut self, buf: &mut [u8]) -> Result<usize, Failed> {
+        (**self).read(buf)
+    }
+}
+
+impl<K: Sink> Sink for &mut K {
+    ghost contents = { λ s. K.contents s.now };
+
+    ghost faults = { λ s. K.faults s.now };
+
+    ghost Apart = { K.Apart };
+
+    ghost apart = { λ s. K.apart s.now };
+
+    fn write(&mut self, bytes: &[u8]) -> Result<(), Failed> {
+        (**self).write(bytes)
+    }
 }

@@ -1,4 +1,4 @@
-ghost use Rattle.std.specs.Prelude.{◌≡◌, ◌-◌, ◌^◌, ◌≤◌, OnErr, OnOk};
+ghost use Rattle.std.specs.Prelude.{◌≡◌, ⊤, ◌-◌, ◌^◌, ◌≤◌, OnErr, OnOk};
 ghost use Rattle.std.specs.Io.{ReadsAtMost, WritesAtMost};
 ghost use Rattle.std.specs.Io.KnownBytes.{Appends, Keeps, ReadConsumes, WriteAppends};
 ghost use Rattle.io_edge.specs.Causes.{HasCause, next_count};
@@ -47,6 +47,10 @@ impl<R: Read> Source for StdSource<R> {
 
     ghost faults = { λ s. s.faults };
 
+    ghost Apart = { ⊤ };
+
+    ghost apart = { λ _. tt };
+
     /// A read that a signal interrupted is made again, and any other error is [`Failed`].
     fn read(&mut self, buf: &mut [u8]) -> Result<usize, Failed> {
         read_counted(&mut self.reader, &mut self.faults, buf)
@@ -93,6 +97,10 @@ impl<W: Write> Sink for StdSink<W> {
 
     ghost faults = { λ s. s.faults };
 
+    ghost Apart = { ⊤ };
+
+    ghost apart = { λ _. tt };
+
     /// A write that a signal interrupted is made again, and any other error is [`Failed`].
     fn write(&mut self, bytes: &[u8]) -> Result<(), Failed> {
         write_counted(&mut self.writer, &mut self.faults, bytes)
@@ -100,7 +108,11 @@ impl<W: Write> Sink for StdSink<W> {
 }
 
 /// Reads once, and again after each interruption. After `u64::MAX` of them it fails.
-fn read_counted<R: Read>(reader: &mut R, faults: &mut u64, buf: &mut [u8]) -> Result<usize, Failed>
+pub(crate) fn read_counted<R: Read>(
+    reader: &mut R,
+    faults: &mut u64,
+    buf: &mut [u8],
+) -> Result<usize, Failed>
     ensures bound { ReadsAtMost result buf.new }
     ensures bytes { ReadConsumes (R.remaining reader.old) (R.remaining reader.new) result buf.new }
     ensures cause { HasCause faults.old faults.new result }
@@ -120,7 +132,11 @@ fn read_counted<R: Read>(reader: &mut R, faults: &mut u64, buf: &mut [u8]) -> Re
 }
 
 /// Writes the whole piece and flushes. After `u64::MAX` calls of the writer it fails.
-fn write_counted<W: Write>(writer: &mut W, faults: &mut u64, bytes: &[u8]) -> Result<(), Failed>
+pub(crate) fn write_counted<W: Write>(
+    writer: &mut W,
+    faults: &mut u64,
+    bytes: &[u8],
+) -> Result<(), Failed>
     ensures ok { OnOk result (Appends (W.contents writer.old) (W.contents writer.new) bytes.now) }
     ensures err { OnErr result (AppendsFront (W.contents writer.old) (W.contents writer.new) bytes.now) }
     ensures cause { HasCause faults.old faults.new result }
@@ -171,7 +187,7 @@ fn flush_counted<W: Write>(writer: &mut W, faults: &mut u64) -> Result<(), Faile
 }
 
 /// Counts one more fault.
-fn count_fault(faults: &mut u64) -> Failed
+pub(crate) fn count_fault(faults: &mut u64) -> Failed
     ensures counted { faults.new ≡ next_count faults.old }
     ensures later { faults.old ≤ faults.new }
 {

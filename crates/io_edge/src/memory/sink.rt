@@ -1,4 +1,4 @@
-ghost use Rattle.std.specs.Prelude.{◌≡◌, [], IsErr, OnErr, OnOk, Some};
+ghost use Rattle.std.specs.Prelude.{◌≡◌, ⊤, [], IsErr, OnErr, OnOk, Some};
 ghost use Rattle.io_edge.specs.Causes.{HasCause};
 ghost use Rattle.io_edge.specs.Memory.{KeepsFront, NextFails, after_write, empty_sink};
 
@@ -74,6 +74,10 @@ impl Sink for MemSink<'_> {
     ghost contents = { λ s. Some s.written };
 
     ghost faults = { λ s. s.faults };
+
+    ghost Apart = { ⊤ };
+
+    ghost apart = { λ _. tt };
 
     /// Fails in the calls whose numbers are listed, and where there is no memory for the piece. The
     /// list is looked through in each call.

@@ -1,4 +1,4 @@
-ghost use Rattle.std.specs.Prelude.{◌≡◌, ◌<◌, ◌-◌, ◌^◌, ◌↔◌, ◌++◌, [], IfOk, IsErr, OnErr, Some, drop, length, take};
+ghost use Rattle.std.specs.Prelude.{◌≡◌, ⊤, ◌<◌, ◌-◌, ◌^◌, ◌↔◌, ◌++◌, [], IfOk, IsErr, OnErr, Some, drop, length, take};
 ghost use Rattle.io_edge.specs.Causes.{HasCause};
 ghost use Rattle.io_edge.specs.Memory.{NextFails, after_failed_read, after_read, read_len, source_of};
 
@@ -77,6 +77,10 @@ impl Source for MemSource<'_> {
     ghost left = { λ s. Some s.left };
 
     ghost faults = { λ s. s.faults };
+
+    ghost Apart = { ⊤ };
+
+    ghost apart = { λ _. tt };
 
     /// Fails exactly in the calls whose numbers are listed, and else hands over as many bytes as
     /// are left, fit and may come at once. The list is looked through in each call.

@@ -1,4 +1,4 @@
-use Rattle.std.proofs.Common.{◌≡◌, ℕ, min, List, ◌++◌, Result, Ok, Err, IfOk, OnErr, length, take, drop, arith}
+use Rattle.std.proofs.Common.{refl, ◌≡◌, ℕ, min, List, ◌++◌, Result, Ok, Err, IfOk, OnErr, length, take, drop, arith}
 use Rattle.std.proofs.lemmas.List.{nil_from_length}
 use Rattle.io_edge.specs.Causes.{HasCause}
 use Rattle.io_edge.proofs.ReadLemmas.{HandsOver, reads_front}
@@ -25,4 +25,4 @@ pub read-tells : goal.read-tells
 read-tells g c =
     let h = hands_over c.result c.args.self.now c.args.buf.now c.new.buf.now c.new.self.now c.ensures.count c.ensures.read c.ensures.rest in
     let front = reads_front c.result _ _ _ _ h.0 h.1 in
-    record { bound = front.0; bytes = front.1; cause = h.2 }
+    record { bound = front.0; bytes = front.1; cause = h.2; apart = refl }

@@ -14,4 +14,4 @@ appends (Err e) old new piece ok (inr kept) =
 pub write-tells : goal.write-tells
 write-tells g c =
     let h = appends c.result c.args.self.now c.new.self.now c.args.bytes.now c.ensures.ok c.ensures.err in
-    record { ok = h.0; err = h.1; cause = c.ensures.cause }
+    record { ok = h.0; err = h.1; cause = c.ensures.cause; apart = refl }

@@ -1,4 +1,4 @@
-use Rattle.std.proofs.Common.{◌≡◌, ℕ, ◌<◌, List, [], ◌++◌, Result, Ok, Err, IfOk, OnErr, length, take, drop, arith, ap}
+use Rattle.std.proofs.Common.{refl, ◌≡◌, ℕ, ◌<◌, List, [], ◌++◌, Result, Ok, Err, IfOk, OnErr, length, take, drop, arith, ap}
 use Rattle.io_edge.specs.Memory.{SourceState, read_len, after_read, after_failed_read}
 use Rattle.io_edge.proofs.ReadLemmas.{HandsOver, reads_front}
 use Rattle.io_edge.proofs.memory.source.MemSourceSource.TheImpl.Goals as goal
@@ -24,4 +24,4 @@ read-tells g c =
     let e = c.ensures in
     let h = hands_over c.result c.args.self.now c.new.self.now c.args.buf.now c.new.buf.now e.count e.end e.read e.ok e.err in
     let front = reads_front c.result _ _ _ _ h.0 h.1 in
-    record { bound = front.0; bytes = front.1; cause = e.cause }
+    record { bound = front.0; bytes = front.1; cause = e.cause; apart = refl }
