@@ -1,3 +1,5 @@
+//! Moving bytes between buffers.
+
 ghost use Rattle.std.specs.Prelude.{◌≡◌, ◌≤◌, ◌++◌, drop, length, take};
 
 /// Copies the first `count` bytes into the front of the buffer.

@@ -1,3 +1,5 @@
+//! A source and a sink that never fail.
+
 ghost use Rattle.std.specs.Prelude.{◌≡◌, ⊤, ◌+◌, ◌-◌, ◌^◌, ◌++◌, [], Some, None, drop, length, min, take, IfOk, IsOk, Ok};
 
 use crate::bytes::copy_front;

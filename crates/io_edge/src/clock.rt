@@ -1,3 +1,5 @@
+//! What tells the time.
+
 ghost use Rattle.std.specs.Prelude.{◌≡◌, ℕ, Option, Some, IfSome};
 
 /// What tells the time.

@@ -1,3 +1,5 @@
+//! What hands out the streams that others open, and what opens streams to others.
+
 ghost use Rattle.std.specs.Prelude.{◌≡◌, ◌<◌, ◌≤◌, ℕ, None, IfOk};
 ghost use Rattle.io_edge.specs.Causes.{HasCause, next_count};
 ghost use Rattle.io_edge.specs.Doors.{handed_after, nones_after};

@@ -1,3 +1,5 @@
+//! The trait of one side of a conversation in bytes.
+
 ghost use Rattle.std.specs.Prelude.{◌≡◌, ◌↔◌, ◌⊎◌, ◌≤◌, ◌++◌, [], ℕ, List, Option, Ok, IfSome, length, take, drop, true};
 ghost use Rattle.io_edge.specs.Machine.{ends};
 

@@ -1,3 +1,5 @@
+//! Sources and sinks in memory.
+
 mod dialer;
 mod door;
 mod sink;

@@ -1,3 +1,5 @@
+//! Streams: the two sides of one connection.
+
 ghost use Rattle.std.specs.Prelude.{◌≡◌, Option, List, ℕ};
 
 use crate::edge::{Sink, Source};

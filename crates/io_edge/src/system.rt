@@ -1,3 +1,5 @@
+//! The system's clock.
+
 ghost use Rattle.std.specs.Prelude.{None};
 
 use crate::clock::Clock;

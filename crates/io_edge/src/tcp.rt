@@ -1,3 +1,5 @@
+//! Streams, doors and dialers over sockets.
+
 ghost use Rattle.std.specs.Prelude.{◌≡◌, ◌<◌, ◌≤◌, ℕ, None, Some, refl};
 ghost use Rattle.io_edge.specs.Causes.{HasCause};
 

@@ -1,3 +1,5 @@
+//! A dialer in memory, with streams that were prepared.
+
 ghost use Rattle.std.specs.Prelude.{◌≡◌, Ok, Err, Some, None, drop, MatchResult};
 ghost use Rattle.io_edge.specs.Causes.{HasCause, next_count};
 ghost use Rattle.io_edge.specs.Doors.{dialer_of, next_stream, after_dial, after_failed_dial};

@@ -1,3 +1,5 @@
+//! A sink in memory where some calls fail.
+
 ghost use Rattle.std.specs.Prelude.{◌≡◌, ⊤, [], IsErr, OnErr, OnOk, Some};
 ghost use Rattle.io_edge.specs.Causes.{HasCause};
 ghost use Rattle.io_edge.specs.Memory.{KeepsFront, NextFails, after_write, empty_sink};

@@ -1,3 +1,5 @@
+//! A source in memory where some calls fail.
+
 ghost use Rattle.std.specs.Prelude.{◌≡◌, ⊤, ◌<◌, ◌-◌, ◌^◌, ◌↔◌, ◌++◌, [], IfOk, IsErr, OnErr, Some, drop, length, take};
 ghost use Rattle.io_edge.specs.Causes.{HasCause};
 ghost use Rattle.io_edge.specs.Memory.{NextFails, after_failed_read, after_read, read_len, source_of};

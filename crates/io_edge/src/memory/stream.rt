@@ -1,3 +1,5 @@
+//! A stream in memory: a source and a sink.
+
 ghost use Rattle.std.specs.Prelude.{◌≡◌};
 ghost use Rattle.std.proofs.Common.{ap};
 
