@@ -1,5 +1,5 @@
 -- The keys of what tells a conflict, which is a directory string, or no text.
-use Rattle.std.proofs.Common.{◌≡◌, ℕ, Bool, true, false, List, Option, Some, None, refl, sym, ap, subst, ◌∙◌}
+use Rattle.std.proofs.Common.{◌≡◌, ℕ, Bool, true, false, List, Some, None, refl, sym, ap, subst, ◌∙◌}
 use Rattle.std.specs.Prelude.{codes, if◌then◌else◌}
 use Rattle.std.specs.Str.{is_utf8}
 use Rattle.repl_data.specs.declared.change.AttrKey.{AttrKey}

@@ -5,7 +5,6 @@ use Rattle.repl_data.specs.declared.csn.Uid.{Uid}
 use Rattle.repl_data.specs.declared.change.Val.{Val}
 use Rattle.repl_data.specs.declared.change.Attr.{Attr}
 use Rattle.repl_data.specs.declared.change.Shown.{Shown}
-use Rattle.repl_data.specs.declared.change.ShownEntry.{ShownEntry}
 use Rattle.repl_data.specs.Order.{bytes_cmp, bytes_eq}
 use Rattle.repl_data.specs.View.{user, vals_at, put_val, with_class, key_named, glue_class, tombstone_class, id_val, operational, conflicts, shown_present, shown_gone}
 use Rattle.repl_data.proofs.Loops.{put_by_map}

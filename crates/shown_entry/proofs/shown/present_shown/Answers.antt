@@ -1,4 +1,4 @@
-use Rattle.std.proofs.Common.{ap, ◌∙◌}
+use Rattle.std.proofs.Common.{◌∙◌}
 use Rattle.shown_entry.proofs.Users.{present_from}
 use Rattle.shown_entry.proofs.shown.present_shown.Goals as goal
 

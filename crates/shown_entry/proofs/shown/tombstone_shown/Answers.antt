@@ -1,4 +1,4 @@
-use Rattle.std.proofs.Common.{ap, ◌∙◌}
+use Rattle.std.proofs.Common.{◌∙◌}
 use Rattle.shown_entry.proofs.Users.{gone_from}
 use Rattle.shown_entry.proofs.shown.tombstone_shown.Goals as goal
 
