@@ -1,0 +1,4 @@
+pub mod Entries
+pub mod PageRows
+pub mod Rising
+pub mod Values
