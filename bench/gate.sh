@@ -54,7 +54,10 @@ def look(root, works, seconds):
 def main():
     works, seconds = {}, {}
     with open(LOG, "w") as log:
-        gate = subprocess.Popen(["rt", "ci", *sys.argv[1:]], stdout=log, stderr=subprocess.STDOUT)
+        gate = subprocess.Popen(
+            ["rt", "ci", *sys.argv[1:]],
+            stdin=subprocess.DEVNULL, stdout=log, stderr=subprocess.STDOUT, start_new_session=True,
+        )
         try:
             while gate.poll() is None:
                 look(gate.pid, works, seconds)
@@ -74,8 +77,8 @@ def main():
         times = [*row.values(), sum(row.values())]
         print(f"{crate:24}" + "".join(f" {used / 60:8.2f}" for used in times))
     print(f"seen {seen / 60:.1f} of {(usage.ru_utime + usage.ru_stime) / 60:.1f} minutes in all")
-    print(open(LOG).read().rstrip().rsplit("\n", 1)[-1])
-    return gate.returncode
+    print(f"status {gate.returncode}: " + open(LOG).read().rstrip().rsplit("\n", 1)[-1])
+    return 0 if gate.returncode == 0 else 1
 
 sys.exit(main())
 END
