@@ -1,0 +1,5 @@
+pub mod Index
+pub mod Rows
+pub mod Walk
+pub mod Planned
+pub mod Known
