@@ -3,3 +3,4 @@ pub mod Rows
 pub mod Walk
 pub mod Planned
 pub mod Known
+pub mod Climb
