@@ -38,20 +38,20 @@ AllAbove u es = AllByRecursion (λ (e : EntryFacts). uid_cmp u e.id ≡ Less) es
 abbrev pub AllBelow : List EntryFacts → Type 0
 AllBelow es = AllByRecursion HasParentBelow es
 
-greater : (u v : Uid) → uid_cmp u v ≡ Greater → uid_cmp v u ≡ Less
+pub greater : (u v : Uid) → uid_cmp u v ≡ Greater → uid_cmp v u ≡ Less
 greater u v h = uid_total.antisymm v u ∙ ap ordering_reverse h
 
 less : (u v : Uid) → uid_cmp u v ≡ Less → uid_cmp v u ≡ Greater
 less u v h = uid_total.antisymm v u ∙ ap ordering_reverse h
 
-self_eq : (u : Uid) → uid_eq u u ≡ true
+pub self_eq : (u : Uid) → uid_eq u u ≡ true
 self_eq u = ap is_eq (tied_itself uid_total u)
 
 above_other : (u : Uid) (es : List EntryFacts) → AllAbove u es → AllByRecursion (λ (e : EntryFacts). uid_eq e.id u ≡ false) es
 above_other u [] h = tt
 above_other u (e ∷ es) h = (ap is_eq (less u e.id h.0), above_other u es h.1)
 
-at_above : (u : Uid) (d : EntryFacts) (above : List EntryFacts) → uid_cmp u d.id ≡ Equal → AllAbove d.id above → AllAbove u above
+pub at_above : (u : Uid) (d : EntryFacts) (above : List EntryFacts) → uid_cmp u d.id ≡ Equal → AllAbove d.id above → AllAbove u above
 at_above u d above e h = subst (λ (v : Uid). AllAbove v above) (sym (uid_exact u d.id e)) h
 
 pub all_above_at : (u v : Uid) (es : List EntryFacts) → uid_cmp u v ≡ Less → AllAbove v es → AllAbove u es
@@ -95,7 +95,7 @@ found_at u f (d ∷ above) r h =
     none (e ∷ es) a = ap (λ o. cond (is_eq o) (Some e) (find (λ (x : EntryFacts). uid_eq u x.id) es)) a.0 ∙ none es a.1
 
 -- an entry that is put leaves those of lower ids, and stands there itself
-put_step : (f e : EntryFacts) (es : List EntryFacts) (o : Ordering) → uid_cmp f.id e.id ≡ o → put_fact f (e ∷ es) ≡ by_order o (f ∷ e ∷ es) (f ∷ es) (e ∷ put_fact f es)
+pub put_step : (f e : EntryFacts) (es : List EntryFacts) (o : Ordering) → uid_cmp f.id e.id ≡ o → put_fact f (e ∷ es) ≡ by_order o (f ∷ e ∷ es) (f ∷ es) (e ∷ put_fact f es)
 put_step f e es o h = ap (λ p. by_order p (f ∷ e ∷ es) (f ∷ es) (e ∷ put_fact f es)) h
 
 pub at_put : (e : EntryFacts) (u : Uid) (f : EntryFacts) (es : List EntryFacts) → uid_cmp e.id u ≡ Greater → StandsAt u f es → StandsAt u f (put_fact e es)
@@ -138,21 +138,21 @@ pub same_shown : (L M : EntryFacts → Bool) (es : List EntryFacts) → AllByRec
 same_shown L M [] h = refl
 same_shown L M (d ∷ above) h = λ i. cond (h.0 i || any_below d.id (same_shown L M above h.1 i)) (child_of d ∷ same_shown L M above h.1 i) (same_shown L M above h.1 i)
 
-not_held : (B : EntryFacts → Bool) (u : Uid) (e : EntryFacts) → uid_eq e.id u ≡ false → held B u e ≡ B e
+pub not_held : (B : EntryFacts → Bool) (u : Uid) (e : EntryFacts) → uid_eq e.id u ≡ false → held B u e ≡ B e
 not_held B u e h = ap (λ b. B e || b) h ∙ by (B e)
   where
     by : (b : Bool) → (b || false) ≡ b
     by true = refl
     by false = refl
 
-is_held : (B : EntryFacts → Bool) (u : Uid) (e : EntryFacts) → uid_eq e.id u ≡ true → held B u e ≡ true
+pub is_held : (B : EntryFacts → Bool) (u : Uid) (e : EntryFacts) → uid_eq e.id u ≡ true → held B u e ≡ true
 is_held B u e h = ap (λ b. B e || b) h ∙ by (B e)
   where
     by : (b : Bool) → (b || true) ≡ true
     by true = refl
     by false = refl
 
-none_held : (B : EntryFacts → Bool) (u : Uid) (es : List EntryFacts) → AllAbove u es → shown_by (held B u) es ≡ shown_by B es
+pub none_held : (B : EntryFacts → Bool) (u : Uid) (es : List EntryFacts) → AllAbove u es → shown_by (held B u) es ≡ shown_by B es
 none_held B u es h = same_shown B (held B u) es (by es (above_other u es h))
   where
     by : (es : List EntryFacts) → AllByRecursion (λ (e : EntryFacts). uid_eq e.id u ≡ false) es → AllByRecursion (λ e. held B u e ≡ B e) es

@@ -55,7 +55,7 @@ none_zero u (c ∷ cs) h = by (stands_below u c) h (none_zero u cs)
 pub some_any : (u : Uid) (cs : List Child) → count_below u cs ≢ 0 → any_below u cs ≡ true
 some_any u cs h = decide (any_below u cs) (λ t. t) (λ f. absurd (h (none_zero u cs f)))
 
-among_without : (u : Uid) (cs : List Child) → is_among_children u (without_child u cs) ≡ false
+pub among_without : (u : Uid) (cs : List Child) → is_among_children u (without_child u cs) ≡ false
 among_without u [] = refl
 among_without u (c ∷ cs) = by (uid_eq c.id u) refl (among_without u cs)
   where
@@ -64,11 +64,11 @@ among_without u (c ∷ cs) = by (uid_eq c.id u) refl (among_without u cs)
     by false e more = ap (λ t. t || is_among_children u (without_child u cs)) e ∙ more
 
 -- one child less, below its parent and elsewhere
-count_less : (u : Uid) (c : Child) (cs : List Child) → HasRisingIds cs → IsOneOf c cs → stands_below u c ≡ true → count_below u cs ≡ suc (count_below u (without_child c.id cs))
+pub count_less : (u : Uid) (c : Child) (cs : List Child) → HasRisingIds cs → IsOneOf c cs → stands_below u c ≡ true → count_below u cs ≡ suc (count_below u (without_child c.id cs))
 count_less u c cs r m h =
     sym (fewer (stands_below u) c cs r m h) ∙ ap (λ xs. suc (length xs)) (sym (filters (stands_below u) (λ (d : Child). not (uid_eq d.id c.id)) cs))
 
-count_kept : (u : Uid) (c : Child) (cs : List Child) → HasRisingIds cs → IsOneOf c cs → stands_below u c ≡ false → count_below u cs ≡ count_below u (without_child c.id cs)
+pub count_kept : (u : Uid) (c : Child) (cs : List Child) → HasRisingIds cs → IsOneOf c cs → stands_below u c ≡ false → count_below u cs ≡ count_below u (without_child c.id cs)
 count_kept u c cs r m h =
     ap length (sym (without_fresh c.id (filter (stands_below u) cs) (only (stands_below u) c cs r m h)) ∙ sym (filters (stands_below u) (λ (d : Child). not (uid_eq d.id c.id)) cs))
 
@@ -106,7 +106,7 @@ without_put c cs r f =
     ∙ ap (λ o. cond (not (is_eq o)) (put_child c (without_child c.id cs)) (without_child c.id cs)) (tied_itself uid_total c.id)
     ∙ without_fresh c.id cs f
 
-rises_without : (u : Uid) (cs : List Child) → HasRisingIds cs → HasRisingIds (without_child u cs)
+pub rises_without : (u : Uid) (cs : List Child) → HasRisingIds cs → HasRisingIds (without_child u cs)
 rises_without u [] h = tt
 rises_without u (c ∷ cs) h = by (not (uid_eq c.id u)) (rises_without u cs h.1)
   where
@@ -123,7 +123,7 @@ rises_without u (c ∷ cs) h = by (not (uid_eq c.id u)) (rises_without u cs h.1)
     by false more = more
 
 -- WHAT SHOWS rises, and is no more than the entries
-below_shown : (L : EntryFacts → Bool) (u : Uid) (es : List EntryFacts) → AllAbove u es → AllByRecursion (λ (c : Child). uid_cmp u c.id ≡ Less) (shown_by L es)
+pub below_shown : (L : EntryFacts → Bool) (u : Uid) (es : List EntryFacts) → AllAbove u es → AllByRecursion (λ (c : Child). uid_cmp u c.id ≡ Less) (shown_by L es)
 below_shown L u [] h = tt
 below_shown L u (d ∷ above) h = by (L d || any_below d.id (shown_by L above)) (below_shown L u above h.1)
   where
@@ -147,14 +147,14 @@ few_shown L (d ∷ above) = by (L d || any_below d.id (shown_by L above)) (few_s
     by true h = omega arith
     by false h = omega arith
 
-none_among : (L : EntryFacts → Bool) (u : Uid) (es : List EntryFacts) → AllAbove u es → is_among_children u (shown_by L es) ≡ false
+pub none_among : (L : EntryFacts → Bool) (u : Uid) (es : List EntryFacts) → AllAbove u es → is_among_children u (shown_by L es) ≡ false
 none_among L u es h = by (shown_by L es) (below_shown L u es h)
   where
     by : (cs : List Child) → AllByRecursion (λ (c : Child). uid_cmp u c.id ≡ Less) cs → is_among_children u cs ≡ false
     by [] g = refl
     by (c ∷ cs) g = ap (λ o. is_eq o || is_among_children u cs) (uid_total.antisymm c.id u ∙ ap ordering_reverse g.0) ∙ by cs g.1
 
-few_put : (e : EntryFacts) (es : List EntryFacts) → length (put_fact e es) ≤ suc (length es)
+pub few_put : (e : EntryFacts) (es : List EntryFacts) → length (put_fact e es) ≤ suc (length es)
 few_put e [] = omega arith
 few_put e (d ∷ above) = by (uid_cmp e.id d.id) (few_put e above)
   where
@@ -163,7 +163,7 @@ few_put e (d ∷ above) = by (uid_cmp e.id d.id) (few_put e above)
     by Equal h = omega arith
     by Greater h = omega arith
 
-few_without : (u : Uid) (cs : List Child) → length (without_child u cs) ≤ length cs
+pub few_without : (u : Uid) (cs : List Child) → length (without_child u cs) ≤ length cs
 few_without u [] = omega arith
 few_without u (c ∷ cs) = by (not (uid_eq c.id u)) (few_without u cs)
   where
@@ -172,15 +172,15 @@ few_without u (c ∷ cs) = by (not (uid_eq c.id u)) (few_without u cs)
     by false h = omega arith
 
 -- STEPS with one more behind
-true_last : (n : ℕ) (ss : List Step) (s : Step) (cs : List Child) → AreTrue n cs ss → IsTrueOf (stepped ss cs) s → length (stepped ss cs) ≤ n → AreTrue n cs (ss ++ s ∷ [])
+pub true_last : (n : ℕ) (ss : List Step) (s : Step) (cs : List Child) → AreTrue n cs ss → IsTrueOf (stepped ss cs) s → length (stepped ss cs) ≤ n → AreTrue n cs (ss ++ s ∷ [])
 true_last n [] s cs h t l = (t, l, tt)
 true_last n (x ∷ ss) s cs h t l = (h.0, h.1, true_last n ss s (step_of x cs) h.2 t l)
 
 -- all below parents under this one
-abbrev IsUnder : Uid → Step → Type 0
+abbrev pub IsUnder : Uid → Step → Type 0
 IsUnder u s = uid_cmp (child_in s).parent u ≡ Less
 
-apart_last : (ss : List Step) (c : Child) → AreApart ss → AllByRecursion (IsUnder c.parent) ss → AreApart (ss ++ Enter c ∷ [])
+pub apart_last : (ss : List Step) (c : Child) → AreApart ss → AllByRecursion (IsUnder c.parent) ss → AreApart (ss ++ Enter c ∷ [])
 apart_last [] c a h = (tt, tt)
 apart_last (Enter d ∷ ss) c a h = (last ss a.0, apart_last ss c a.1 h.1)
   where
@@ -197,7 +197,7 @@ under_more : (u v : Uid) (ss : List Step) → uid_cmp u v ≡ Less → AllByRecu
 under_more u v [] l h = tt
 under_more u v (s ∷ ss) l h = (uid_total.trans (child_in s).parent u v h.0 l, under_more u v ss l h.1)
 
-apart_leaves : (cs : List Child) → AreApart (leaves cs)
+pub apart_leaves : (cs : List Child) → AreApart (leaves cs)
 apart_leaves [] = tt
 apart_leaves (c ∷ cs) = apart_leaves cs
 
@@ -209,14 +209,14 @@ dead_below : (f : EntryFacts) → HasParentBelow f → (uid_eq f.id suffix_id �
 dead_below f (inl h) r d = let e : true ≡ false = sym (r h) ∙ d in cc
 dead_below f (inr h) r d = (h, decide (uid_eq f.id suffix_id) (λ t. let e : true ≡ false = sym (r t) ∙ d in cc) (λ n. n))
 
-below_parent : (f : EntryFacts) → uid_eq f.id suffix_id ≡ false → stands_below f.parent (child_of f) ≡ true
+pub below_parent : (f : EntryFacts) → uid_eq f.id suffix_id ≡ false → stands_below f.parent (child_of f) ≡ true
 below_parent f h = λ i. is_eq (tied_itself uid_total f.parent i) && not (h i)
 
-first_of_chain : (n : ℕ) (es : List EntryFacts) (cs : List Child) (u : Uid) (chain : List Child) → IsChain n es cs u chain → (e : EntryFacts) × IsFound es u e
+pub first_of_chain : (n : ℕ) (es : List EntryFacts) (cs : List Child) (u : Uid) (chain : List Child) → IsChain n es cs u chain → (e : EntryFacts) × IsFound es u e
 first_of_chain n es cs u [] h = (h.0, h.1)
 first_of_chain n es cs u (c ∷ chain) h = (h.0, h.1)
 
-swap_less : (u v : Uid) → uid_cmp u v ≡ Less → uid_cmp v u ≡ Greater
+pub swap_less : (u v : Uid) → uid_cmp u v ≡ Less → uid_cmp v u ≡ Greater
 swap_less u v h = uid_total.antisymm v u ∙ ap ordering_reverse h
 
 -- THE ANCESTORS, of an entry e that is put among the entries fs
@@ -230,10 +230,10 @@ module _ (e : EntryFacts) (fs : List EntryFacts) (rises : HasRisingFacts fs) (be
   pub below_after : AllBelow after
   below_after = all_put HasParentBelow e fs own below
 
-  few : (L : EntryFacts → Bool) → length (shown_by L after) ≤ suc (length fs)
+  pub few : (L : EntryFacts → Bool) → length (shown_by L after) ≤ suc (length fs)
   few L = omega (arith, few_shown L after, few_put e fs)
 
-  stands : (u : Uid) (f : EntryFacts) → uid_cmp u e.id ≡ Less → IsFound fs u f → StandsAt u f fs × StandsAt u f after
+  pub stands : (u : Uid) (f : EntryFacts) → uid_cmp u e.id ≡ Less → IsFound fs u f → StandsAt u f fs × StandsAt u f after
   stands u f l h = let at = found_at u f fs rises h in (at, at_put e u f fs (swap_less u e.id l) at)
 
   -- those that go: cs are the children before

@@ -1,9 +1,11 @@
 -- THE STEPS OF A PLAN: the ancestors that an entry takes along when it goes, or brings along when it comes.
-use Rattle.std.specs.Prelude.{◌≡◌, ◌≢◌, ◌⊎◌, ℕ, ◌≤◌, ◌<◌, true, false, List, [], ◌∷◌, ◌++◌, length, filter, find, Option, Some, IfSome}
+use Rattle.std.specs.Prelude.{◌≡◌, ◌≢◌, ◌⊎◌, Bool, ℕ, ◌≤◌, ◌<◌, true, false, List, [], ◌∷◌, ◌++◌, length, filter, find, Option, Some, IfSome}
 use Rattle.std.specs.List.{AllByRecursion}
 use Rattle.std.specs.BTreeMap.{BTreeMap}
 use Rattle.repl_data.specs.declared.csn.Uid.{Uid}
 use Rattle.repl_data.specs.Order.{uid_eq}
+use Rattle.repl_data.specs.declared.change.Body.{Body}
+use Rattle.repl_data.specs.declared.change.Body.TheVariants.{Mod as Modify}
 use Rattle.repl_data.specs.Facts.{EntryFacts}
 use Rattle.repl_data.specs.Presence.{is_live}
 use Rattle.urp_tree.specs.declared.child.Child.{Child}
@@ -61,3 +63,33 @@ pub record IsWay (n : ℕ) (es : List EntryFacts) (e : EntryFacts) (ss : List St
   pub leads : stepped ss (children_of_facts es) ≡ children_of_facts (put_fact e es)
   pub trues : AreTrue n (children_of_facts es) ss
   pub apart : AreApart ss
+
+-- in the rows: an entry that is not live and has just so many present children, and an id that has none such
+pub record IsWeakAt (n : ℕ) (rows : BTreeMap Uid (Option Row)) (u : Uid) (e : EntryFacts) : Type 0 where
+  pub row : Row
+  pub there : row_at rows u ≡ Some row
+  pub entry : row.entry ≡ e
+  pub dead : is_live e ≡ false
+  pub children : row.children ≡ n
+
+abbrev pub IsStrongAt : ℕ → BTreeMap Uid (Option Row) → Uid → Type 0
+IsStrongAt n rows u = (r : Row) → row_at rows u ≡ Some r → (is_live r.entry ≡ true) ⊎ (r.children ≢ n)
+
+-- an old child goes, and then its ancestors; ancestors come, and then a new child
+abbrev pub GoesBy : List EntryFacts → List Child → EntryFacts → List Step → Type 0
+GoesBy es cs d ss = (chain : List Child) × IsChain 1 es cs d.parent chain × (ss ≡ Leave (child_of d) ∷ leaves chain)
+
+abbrev pub ComesBy : List EntryFacts → List Child → EntryFacts → List Step → Type 0
+ComesBy es cs e ss = (chain : List Child) × IsChain 0 es cs e.parent chain × (ss ≡ enters chain ++ Enter (child_of e) ∷ [])
+
+-- whether an entry shows with so many present children
+abbrev pub Shows : EntryFacts → ℕ → Type 0
+Shows e n = (is_live e ≡ true) ⊎ (0 < n)
+
+abbrev pub Hides : EntryFacts → ℕ → Type 0
+Hides e n = (is_live e ≡ false) × (n ≡ 0)
+
+-- whether a change is a modify
+abbrev pub is_modify : Body → Bool
+is_modify (Modify mods) = true
+is_modify _ = false

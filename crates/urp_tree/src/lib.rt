@@ -4,10 +4,12 @@
 mod child;
 mod laws;
 mod plan;
+mod room;
 mod row;
 mod seat;
 mod step;
 mod tree;
+mod way;
 
 pub use laws::tree_laws;
 pub use plan::Plan;
