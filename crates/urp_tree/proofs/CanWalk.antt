@@ -18,7 +18,7 @@ use Rattle.urp_tree.specs.declared.row.Row.{Row}
 use Rattle.urp_tree.specs.declared.step.Step.{Step}
 use Rattle.urp_tree.specs.declared.step.Step.TheVariants.{Enter, Leave}
 use Rattle.urp_tree.specs.Index.{stands_below, wants, wanting, contender, spare_at, HasRisingIds, IsOneOf}
-use Rattle.urp_tree.specs.Rows.{row_at, AreIndexed, HasRoomFor, HasChild, SeatLeaves, SeatKeeps}
+use Rattle.urp_tree.specs.Rows.{row_at, AreIndexed, HasRoomFor, HasChild, SeatLeaves, SeatWidens}
 use Rattle.urp_tree.specs.Walk.{step_of, child_in, IsTrueOf, HasPlace, Steps, CanWalk}
 use Rattle.urp_tree.specs.Climb.{count_below, AreTrue, IsApart, AreApart, RoomFor}
 use Rattle.urp_tree.proofs.Children.{fewer}
@@ -117,11 +117,11 @@ can_walk n (Leave c ∷ ss) cs rows small rises t a r indexed = (
 )
 
 -- where room is made below another entry, or below the same
-spare_kept : (rdn : Rdn) (o p : Option Row) → SeatKeeps o p → HasSpare rdn o → HasSpare rdn p
+spare_kept : (rdn : Rdn) (o p : Option Row) → SeatWidens o p → HasSpare rdn o → HasSpare rdn p
 spare_kept rdn None p h g = subst (HasSpare rdn) (sym h) tt
 spare_kept rdn (Some r) p h g = subst (HasSpare rdn) (sym h.1) (less_then (spare_at r.names rdn) (spare_at h.0.names rdn) g (h.2.spare rdn))
 
-pub room_kept : (parent : Uid) (rows new : BTreeMap Uid (Option Row)) → ((u : Uid) → uid_eq parent u ≡ false → row_at new u ≡ row_at rows u) → SeatKeeps (row_at rows parent) (row_at new parent) → (t : Step) → RoomFor rows t → RoomFor new t
+pub room_kept : (parent : Uid) (rows new : BTreeMap Uid (Option Row)) → ((u : Uid) → uid_eq parent u ≡ false → row_at new u ≡ row_at rows u) → SeatWidens (row_at rows parent) (row_at new parent) → (t : Step) → RoomFor rows t → RoomFor new t
 room_kept parent rows new others kept (Leave d) room = tt
 room_kept parent rows new others kept (Enter d) room =
     decide (uid_eq parent d.parent)

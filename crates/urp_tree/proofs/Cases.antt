@@ -20,7 +20,7 @@ use Rattle.urp_tree.specs.Known.{put_fact, HasRisingFacts}
 use Rattle.urp_tree.specs.Climb.{count_below, IsFound, IsChain, leaves, enters, AreTrue, AreApart, IsWay}
 use Rattle.urp_tree.proofs.Children.{IsBelowAll, put_back, without_fresh}
 use Rattle.urp_tree.proofs.Walks.{stepped_last}
-use Rattle.urp_tree.proofs.Goes.{any_below}
+use Rattle.urp_tree.proofs.Stays.{any_below}
 use Rattle.urp_tree.proofs.Shield.{shown_by, shown_by_live}
 use Rattle.urp_tree.proofs.Stays.{Replaces, children_stay}
 use Rattle.urp_tree.proofs.Levels.{held, StandsAt, AllAbove, AllBelow, the_one, id_at, self_put, own_none, lower_none, any_tail, same_shown, any_held, unheld, shown_at, held_shows, goes_up, none_held, is_held, not_held, self_eq, at_above, greater, put_step, all_above_at}

@@ -39,7 +39,7 @@ use Rattle.urp_tree.specs.Known.{put_fact, fact_at, entry_after, HasRisingFacts,
 use Rattle.urp_tree.specs.Climb.{count_below, IsFound, IsChain, IsWay, GoesBy, ComesBy, Shows, Hides, is_modify, leaves, enters}
 use Rattle.urp_tree.proofs.Settled.{row_fact, others_none, children_none, all_present, here_or_later, not_among, above, keys_above, all_above_fresh}
 use Rattle.urp_tree.proofs.Ready.{parent_add, below_add, is_live_add}
-use Rattle.urp_tree.proofs.Goes.{any_below}
+use Rattle.urp_tree.proofs.Stays.{any_below}
 use Rattle.urp_tree.proofs.Shield.{shown_by, shown_by_live}
 use Rattle.urp_tree.proofs.Levels.{StandsAt, the_one, id_at, all_at, found_at}
 use Rattle.urp_tree.proofs.Ways.{zero_any, some_any}

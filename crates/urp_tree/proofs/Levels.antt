@@ -16,7 +16,7 @@ use Rattle.urp_tree.specs.declared.child.Child.{Child}
 use Rattle.urp_tree.specs.Index.{stands_below, put_child, without_child, HasRisingIds, IsOneOf}
 use Rattle.urp_tree.specs.Walk.{child_of, children_of_facts}
 use Rattle.urp_tree.specs.Known.{put_fact, HasRisingFacts}
-use Rattle.urp_tree.proofs.Goes.{any_below}
+use Rattle.urp_tree.proofs.Stays.{any_below}
 use Rattle.urp_tree.proofs.Shield.{shown_by, IsOf, goes_shielded}
 
 decide : {G : Type 0} (b : Bool) → (b ≡ true → G) → (b ≡ false → G) → G

@@ -22,7 +22,7 @@ use Rattle.urp_tree.specs.Climb.{count_below, IsFound, IsChain, leaves, enters, 
 use Rattle.urp_tree.proofs.Children.{IsBelowAll, filter_put, put_back, without_fresh, only, fewer, filters}
 use Rattle.urp_tree.proofs.Walks.{stepped_last}
 use Rattle.urp_tree.proofs.Settled.{all_put}
-use Rattle.urp_tree.proofs.Goes.{any_below}
+use Rattle.urp_tree.proofs.Stays.{any_below}
 use Rattle.urp_tree.proofs.Shield.{shown_by, shown_by_live}
 use Rattle.urp_tree.proofs.Stays.{Replaces, children_stay}
 use Rattle.urp_tree.proofs.Levels.{held, StandsAt, AllAbove, AllBelow, the_one, id_at, all_at, found_at, at_put, self_put, own_none, lower_none, any_tail, same_shown, any_held, unheld, shown_at, held_shows, goes_up, all_above_at}

@@ -8,7 +8,7 @@ ghost use Rattle.urp_tree.specs.Rows.{facts_in};
 ghost use Rattle.urp_tree.specs.Known.{IsTree, HasSeat};
 ghost use Rattle.urp_tree.specs.Climb.{RoomFor};
 
-use crate::seat::{Rows, make_room, seat};
+use crate::seat::{Rows, give_back, make_room, seat, tidy};
 use crate::step::Step;
 use repl_data::{NoMemory, Uid};
 use std::alloc::Global;
@@ -62,4 +62,38 @@ pub(crate) fn prepare(
 {
     rooms_for(rows, alloc, steps)?;
     seat(rows, id)
+}
+
+fn sweep_step(rows: &mut Rows, step: &Step)
+    requires { IsTree rows.old None [] }
+    ensures facts { facts_in rows.new.entries ≡ facts_in rows.old.entries }
+    ensures tree { IsTree rows.new None [] }
+{
+    match step {
+        Step::Enter(child) => tidy(rows, child.parent, &child.rdn),
+        Step::Leave(child) => tidy(rows, child.parent, &child.rdn),
+    }
+}
+
+/// Gives back each slot of the steps' names that nobody contends for.
+pub(crate) fn sweep(rows: &mut Rows, steps: &[Step])
+    requires { IsTree rows.old None [] }
+    ensures facts { facts_in rows.new.entries ≡ facts_in rows.old.entries }
+    ensures tree { IsTree rows.new None [] }
+{
+    for s in steps {
+        sweep_step(rows, s);
+    }
+}
+
+/// Gives back what a plan took that was never installed.
+pub(crate) fn forget(rows: &mut Rows, target: Option<Uid>, steps: &[Step])
+    requires { IsTree rows.old None [] }
+    ensures facts { facts_in rows.new.entries ≡ facts_in rows.old.entries }
+    ensures tree { IsTree rows.new None [] }
+{
+    sweep(rows, steps);
+    if let Some(id) = target {
+        give_back(rows, id);
+    }
 }
