@@ -1,14 +1,14 @@
 -- STEPS THAT CAN BE TAKEN: they tell the truth, and who enters has room.
-use Rattle.std.proofs.Common.{◌≡◌, ℕ, zero, suc, ◌+◌, ◌<◌, ◌≤◌, ◌^◌, List, [], ◌∷◌, ◌++◌, map, length, Bool, true, false, cond, not, Option, Some, None, refl, sym, ap, subst, ◌∙◌, inl, inr, arith}
-use Rattle.std.specs.Prelude.{◌⊎◌, ◌&&◌, ◌||◌, filter, IfSome}
-use Rattle.std.specs.List.{AllByRecursion, list_any}
+use Rattle.std.proofs.Common.{◌≡◌, ℕ, suc, ◌+◌, ◌<◌, ◌≤◌, ◌^◌, List, [], ◌∷◌, ◌++◌, map, length, Bool, true, false, cond, Option, Some, None, refl, sym, ap, subst, ◌∙◌, inl, inr, arith}
+use Rattle.std.specs.Prelude.{◌&&◌, ◌||◌, filter, IfSome}
+use Rattle.std.specs.List.{AllByRecursion}
 use Rattle.std.specs.BTreeMap.{BTreeMap}
 use Rattle.std.specs.Ordering.{is_eq}
 use Rattle.std.proofs.lemmas.Cmp.{tied_itself}
 use Rattle.std.proofs.lemmas.List.Sums.{length-filter, count_by-le-length}
 use Rattle.repl_data.specs.declared.csn.Uid.{Uid}
 use Rattle.repl_data.specs.declared.change.Rdn.{Rdn}
-use Rattle.repl_data.specs.Order.{uid_cmp, uid_eq, suffix_id, same_rdn}
+use Rattle.repl_data.specs.Order.{uid_eq}
 use Rattle.repl_data.specs.Ranks.{rdn_total}
 use Rattle.repl_data.proofs.Orders.{uid_total, uid_exact}
 use Rattle.repl_data.proofs.InOrder.{is_equal}
@@ -19,9 +19,8 @@ use Rattle.urp_tree.specs.declared.step.Step.{Step}
 use Rattle.urp_tree.specs.declared.step.Step.TheVariants.{Enter, Leave}
 use Rattle.urp_tree.specs.Index.{stands_below, wants, wanting, contender, spare_at, HasRisingIds, IsOneOf}
 use Rattle.urp_tree.specs.Rows.{row_at, AreIndexed, HasRoomFor, HasChild, SeatLeaves, SeatWidens}
-use Rattle.urp_tree.specs.Walk.{step_of, child_in, IsTrueOf, HasPlace, Steps, CanWalk}
+use Rattle.urp_tree.specs.Walk.{step_of, Steps, CanWalk}
 use Rattle.urp_tree.specs.Climb.{count_below, AreTrue, IsApart, AreApart, RoomFor}
-use Rattle.urp_tree.proofs.Children.{fewer}
 use Rattle.urp_tree.proofs.Ways.{count_less}
 use Rattle.urp_tree.proofs.Walks.{rises_step, indexed_step}
 

@@ -1,30 +1,28 @@
 -- WHAT A CHANGE DOES TO THE CHILDREN: an entry that is put among the facts moves, goes, comes or rests.
-use Rattle.std.proofs.Common.{◌≡◌, ◌≢◌, ℕ, zero, suc, ◌+◌, ◌≤◌, List, [], ◌∷◌, ◌++◌, length, Bool, true, false, cond, not, Option, Some, None, refl, sym, ap, subst, ◌∙◌, inl, inr, arith}
-use Rattle.std.specs.Prelude.{◌⊎◌, ◌&&◌, ◌||◌, filter, find}
-use Rattle.std.specs.List.{AllByRecursion, list_any}
-use Rattle.std.specs.Ordering.{is_eq, ordering_reverse}
-use Rattle.std.specs.declared.cmp.Ordering.{Ordering}
+use Rattle.std.proofs.Common.{◌≡◌, suc, ◌≤◌, List, [], ◌∷◌, ◌++◌, length, Bool, true, false, cond, not, refl, sym, ap, subst, ◌∙◌, inl, inr, arith}
+use Rattle.std.specs.Prelude.{◌&&◌, ◌||◌}
+use Rattle.std.specs.List.{AllByRecursion}
+use Rattle.std.specs.Ordering.{is_eq}
 use Rattle.std.specs.declared.cmp.Ordering.TheVariants.{Less, Equal, Greater}
-use Rattle.std.proofs.lemmas.Cmp.{tied_itself}
 use Rattle.repl_data.specs.declared.csn.Uid.{Uid}
 use Rattle.repl_data.specs.Order.{uid_cmp, uid_eq, suffix_id, by_order}
 use Rattle.repl_data.specs.Facts.{EntryFacts}
 use Rattle.repl_data.specs.Presence.{is_live, HasParentBelow}
-use Rattle.repl_data.proofs.Orders.{uid_total, uid_exact, split}
+use Rattle.repl_data.proofs.Orders.{uid_exact, split}
 use Rattle.urp_tree.specs.declared.child.Child.{Child}
 use Rattle.urp_tree.specs.declared.step.Step.{Step}
 use Rattle.urp_tree.specs.declared.step.Step.TheVariants.{Enter, Leave}
 use Rattle.urp_tree.specs.Index.{stands_below, is_among_children, put_child, without_child, HasRisingIds, IsOneOf}
-use Rattle.urp_tree.specs.Walk.{child_of, children_of_facts, stepped, step_of, child_in, IsTrueOf}
+use Rattle.urp_tree.specs.Walk.{child_of, stepped}
 use Rattle.urp_tree.specs.Known.{put_fact, HasRisingFacts}
-use Rattle.urp_tree.specs.Climb.{count_below, IsFound, IsChain, leaves, enters, AreTrue, AreApart, IsWay}
+use Rattle.urp_tree.specs.Climb.{count_below, IsChain, leaves, enters, AreTrue, AreApart, IsWay}
 use Rattle.urp_tree.proofs.Children.{IsBelowAll, put_back, without_fresh}
 use Rattle.urp_tree.proofs.Walks.{stepped_last}
 use Rattle.urp_tree.proofs.Stays.{any_below}
 use Rattle.urp_tree.proofs.Shield.{shown_by, shown_by_live}
 use Rattle.urp_tree.proofs.Stays.{Replaces, children_stay}
 use Rattle.urp_tree.proofs.Levels.{held, StandsAt, AllAbove, AllBelow, the_one, id_at, self_put, own_none, lower_none, any_tail, same_shown, any_held, unheld, shown_at, held_shows, goes_up, none_held, is_held, not_held, self_eq, at_above, greater, put_step, all_above_at}
-use Rattle.urp_tree.proofs.Ways.{AreRootsLive, any_swapped, without_put, rises_without, rising_shown, few_shown, few_without, none_among, below_shown, among_without, count_less, count_kept, true_last, apart_last, apart_leaves, below_parent, first_of_chain, swap_less, IsUnder, rises_after, below_after, few, stands, down, up, dropped}
+use Rattle.urp_tree.proofs.Ways.{AreRootsLive, any_swapped, without_put, rises_without, rising_shown, few_shown, few_without, none_among, below_shown, among_without, count_less, count_kept, true_last, apart_last, apart_leaves, below_parent, first_of_chain, swap_less, rises_after, below_after, few, stands, down, up}
 
 decide : {G : Type 0} (b : Bool) → (b ≡ true → G) → (b ≡ false → G) → G
 decide true f g = f refl
@@ -211,8 +209,7 @@ module _ (e : EntryFacts) (fs : List EntryFacts) (rises : HasRisingFacts fs) (be
     move_way now =
         by_way (Leave (child_of d) ∷ Enter (child_of e) ∷ [])
         (ap (put_child (child_of e)) old_gone ∙ sym swapped
-        ∙ unheld is_live e.id e there ups lows own_place (ap (λ t. is_live e || t) (sym (any_held is_live e.id e there ups lows own_place) ∙ same_any) ∙ now))
-        (
+        ∙ unheld is_live e.id e there ups lows own_place (ap (λ t. is_live e || t) (sym (any_held is_live e.id e there ups lows own_place) ∙ same_any) ∙ now)) (
           (member, old_below),
           few_here,
           (

@@ -1,14 +1,12 @@
 -- THE CHAIN OF ANCESTORS, one link after the other.
-use Rattle.std.proofs.Common.{◌≡◌, ◌≢◌, ℕ, zero, suc, ◌+◌, ◌<◌, ◌≤◌, List, [], ◌∷◌, ◌++◌, reverse, length, Bool, true, false, cond, not, Option, Some, None, refl, sym, ap, subst, ◌∙◌, inl, inr, arith, append_assoc, append-nil}
-use Rattle.std.specs.Prelude.{◌⊎◌, ◌&&◌, ◌||◌, filter}
-use Rattle.std.specs.List.{AllByRecursion, list_any}
+use Rattle.std.proofs.Common.{◌≡◌, ◌≢◌, ℕ, ◌<◌, ◌≤◌, List, [], ◌∷◌, ◌++◌, reverse, length, Bool, true, false, cond, Option, Some, None, refl, sym, ap, subst, ◌∙◌, inl, inr, arith, append_assoc}
+use Rattle.std.specs.Prelude.{◌⊎◌, ◌||◌, filter}
 use Rattle.std.specs.BTreeMap.{BTreeMap, IsOrdered as HasOrderedKeys}
-use Rattle.std.specs.Ordering.{is_eq, is_lt}
+use Rattle.std.specs.Ordering.{is_lt}
 use Rattle.std.specs.declared.cmp.Ordering.TheVariants.{Less, Equal, Greater}
-use Rattle.std.proofs.lemmas.Cmp.{tied_itself}
 use Rattle.std.proofs.lemmas.List.{reverse-append}
 use Rattle.repl_data.specs.declared.csn.Uid.{Uid}
-use Rattle.repl_data.specs.Order.{uid_cmp, uid_eq, suffix_id}
+use Rattle.repl_data.specs.Order.{uid_cmp, uid_eq}
 use Rattle.repl_data.specs.Facts.{EntryFacts}
 use Rattle.repl_data.specs.Presence.{is_live, is_among_entries, HasParentBelow}
 use Rattle.repl_data.proofs.Orders.{uid_total, uid_exact}
@@ -111,7 +109,7 @@ module _ (n : ℕ) (rows : BTreeMap Uid (Option Row)) (tree : IsTree rows None [
       let id : e.id ≡ u = ap (λ (x : EntryFacts). x.id) (sym w.entry) ∙ row_id rows tree ordered u w.row w.there in
       let below : HasParentBelow e = all_at HasParentBelow u e facts at tree.below in
       let root : IsLiveRoot e = all_at IsLiveRoot u e facts at tree.roots in
-      let less : uid_cmp e.parent e.id ≡ Less = (elim below [ | inl h ↦ (let x : true ≡ false = sym (root h) ∙ w.dead in cc) | inr h ↦ h ]) in
+      let less : uid_cmp e.parent e.id ≡ Less = (elim below [ inl h ↦ (let x : true ≡ false = sym (root h) ∙ w.dead in cc) | inr h ↦ h ]) in
       lower_lt c.parent u (ap (λ (x : Child). uid_cmp x.parent u) is ∙ ap (uid_cmp e.parent) (sym id) ∙ less) facts (parent_there u e c w is)
 
 -- STEPS of a chain

@@ -1,7 +1,7 @@
 -- A PLAN FROM THE ROWS: what they say of the entries before, and what a sound change makes of its entry.
-use Rattle.std.proofs.Common.{◌≡◌, ◌≢◌, ℕ, zero, suc, ◌+◌, ◌<◌, ◌≤◌, List, [], ◌∷◌, ◌++◌, map, length, Bool, true, false, cond, not, Option, Some, None, refl, sym, ap, subst, ◌∙◌, inl, inr, arith}
-use Rattle.std.specs.Prelude.{◌⊎◌, ◌&&◌, ◌||◌, filter, find, unwrap_or, is_some, Result, Ok, Err, IfOk}
-use Rattle.std.specs.List.{AllByRecursion, list_any}
+use Rattle.std.proofs.Common.{◌≡◌, ℕ, suc, List, [], ◌∷◌, ◌++◌, length, Bool, true, false, cond, not, Option, Some, None, refl, sym, ap, subst, ◌∙◌, inl, inr, arith}
+use Rattle.std.specs.Prelude.{◌||◌, find, unwrap_or, Result, Ok, Err, IfOk}
+use Rattle.std.specs.List.{AllByRecursion}
 use Rattle.std.specs.Map.{lookup, keys_of}
 use Rattle.std.specs.List.Sorted.{IsStrictlySortedBy}
 use Rattle.std.proofs.lemmas.Map.Keys.{sorted_head, sorted_tail}
@@ -32,11 +32,11 @@ use Rattle.urp_tree.specs.declared.child.Child.{Child}
 use Rattle.urp_tree.specs.declared.row.Row.{Row}
 use Rattle.urp_tree.specs.declared.step.Step.{Step}
 use Rattle.urp_tree.specs.declared.step.Step.TheVariants.{Enter, Leave}
-use Rattle.urp_tree.specs.Index.{stands_below, IsIndexed}
+use Rattle.urp_tree.specs.Index.{stands_below}
 use Rattle.urp_tree.specs.Rows.{row_at, taken, fact_of, facts_in, IsKeyed, AreKeyed}
 use Rattle.urp_tree.specs.Walk.{child_of, children_of_facts, children_in}
-use Rattle.urp_tree.specs.Known.{put_fact, fact_at, entry_after, HasRisingFacts, IsTree, IsLiveRoot}
-use Rattle.urp_tree.specs.Climb.{count_below, IsFound, IsChain, IsWay, GoesBy, ComesBy, Shows, Hides, is_modify, leaves, enters}
+use Rattle.urp_tree.specs.Known.{fact_at, entry_after, IsTree, IsLiveRoot}
+use Rattle.urp_tree.specs.Climb.{count_below, IsFound, IsChain, IsWay, GoesBy, ComesBy, Shows, Hides, is_modify}
 use Rattle.urp_tree.proofs.Settled.{row_fact, others_none, children_none, all_present, here_or_later, not_among, above, keys_above, all_above_fresh}
 use Rattle.urp_tree.proofs.Ready.{parent_add, below_add, is_live_add}
 use Rattle.urp_tree.proofs.Stays.{any_below}
@@ -210,7 +210,7 @@ module _ (rows : BTreeMap Uid (Option Row)) (tree : IsTree rows None []) (ordere
       let none : any_below e.id fs ≡ false =
       ap (any_below e.id) (sym as_here)
       ∙ any_none e.id (children_of_facts facts) (children_none e.id (present_of facts) (all_present (λ (x : EntryFacts). stands_below e.id (child_of x) ≡ false) facts (others_none e.id facts facts gone tree.rooted))) in
-      let lower : uid_cmp e.parent e.id ≡ Less = (elim below [ | inl h ↦ never (uid_eq e.id suffix_id) h child | inr h ↦ h ]) in
+      let lower : uid_cmp e.parent e.id ≡ Less = (elim below [ inl h ↦ never (uid_eq e.id suffix_id) h child | inr h ↦ h ]) in
       subst (IsWay (suc (length facts)) facts e) (sym by.2)
       (enter_way e facts tree.rises tree.below tree.roots below live (dead facts gone) none lower child by.0 (subst (λ cs. IsChain 0 facts cs e.parent by.0) as_here by.1))
     where

@@ -1,7 +1,7 @@
 -- THE WAY UP from an entry that comes or goes: its ancestors that have no other reason to be present.
-use Rattle.std.proofs.Common.{◌≡◌, ◌≢◌, ℕ, zero, suc, ◌+◌, ◌≤◌, List, [], ◌∷◌, length, Bool, true, false, cond, not, Option, Some, None, refl, sym, ap, subst, ◌∙◌, inl, inr, arith}
-use Rattle.std.specs.Prelude.{◌⊎◌, ◌&&◌, ◌||◌, filter, find}
-use Rattle.std.specs.List.{AllByRecursion, list_any}
+use Rattle.std.proofs.Common.{◌≡◌, List, [], ◌∷◌, Bool, true, false, cond, not, Option, Some, None, refl, sym, ap, subst, ◌∙◌, inl, inr}
+use Rattle.std.specs.Prelude.{◌⊎◌, ◌&&◌, ◌||◌, find}
+use Rattle.std.specs.List.{AllByRecursion}
 use Rattle.std.specs.Ordering.{is_eq, ordering_reverse}
 use Rattle.std.specs.declared.cmp.Ordering.{Ordering}
 use Rattle.std.specs.declared.cmp.Ordering.TheVariants.{Less, Equal, Greater}
@@ -13,8 +13,8 @@ use Rattle.repl_data.specs.Presence.{HasParentBelow}
 use Rattle.repl_data.proofs.Orders.{uid_total, uid_exact, split}
 use Rattle.repl_data.proofs.InOrder.{is_equal}
 use Rattle.urp_tree.specs.declared.child.Child.{Child}
-use Rattle.urp_tree.specs.Index.{stands_below, put_child, without_child, HasRisingIds, IsOneOf}
-use Rattle.urp_tree.specs.Walk.{child_of, children_of_facts}
+use Rattle.urp_tree.specs.Index.{stands_below, without_child, IsOneOf}
+use Rattle.urp_tree.specs.Walk.{child_of}
 use Rattle.urp_tree.specs.Known.{put_fact, HasRisingFacts}
 use Rattle.urp_tree.proofs.Stays.{any_below}
 use Rattle.urp_tree.proofs.Shield.{shown_by, IsOf, goes_shielded}

@@ -1,6 +1,6 @@
 -- CHANGES ONE AFTER THE OTHER, in an order of arrival: what is known then is what their set says.
 use Rattle.std.proofs.Common.{◌≡◌, List, [], ◌∷◌, ◌++◌, map, Bool, true, false, cond, not, refl, sym, ap, subst, ◌∙◌, append_assoc, append-nil}
-use Rattle.std.specs.Prelude.{◌&&◌, ◌||◌, filter, fold}
+use Rattle.std.specs.Prelude.{◌&&◌, ◌||◌, fold}
 use Rattle.std.specs.List.{list_any, list_all}
 use Rattle.std.specs.Ordering.{is_eq, ordering_reverse}
 use Rattle.repl_data.specs.declared.csn.Csn.{Csn}
@@ -12,9 +12,9 @@ use Rattle.repl_data.specs.declared.change.Suffix.{Suffix}
 use Rattle.repl_data.specs.Order.{csn_eq, uid_cmp, uid_eq, suffix_id}
 use Rattle.repl_data.specs.Stamps.{of_entry}
 use Rattle.repl_data.specs.Check.{is_out_of_order}
-use Rattle.repl_data.specs.Facts.{EntryFacts, added_ids, ids_added, ids_known, entry_facts, all_facts}
+use Rattle.repl_data.specs.Facts.{added_ids, ids_added, ids_known, entry_facts, all_facts}
 use Rattle.repl_data.specs.Presence.{is_among_entries}
-use Rattle.repl_data.specs.Closed.{all_differ, is_known, needed, is_sound, arrives_rooted, is_rooted, IsArrival}
+use Rattle.repl_data.specs.Closed.{all_differ, is_known, needed, is_sound, arrives_rooted, IsArrival}
 use Rattle.repl_data.proofs.Sound.{both_true, not_true, not_false, neither, sound_order}
 use Rattle.repl_data.proofs.Orders.{uid_total, uid_exact, csn_exact}
 use Rattle.repl_data.proofs.InOrder.{is_equal, any-in_order_by}

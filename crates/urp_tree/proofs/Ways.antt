@@ -1,7 +1,7 @@
 -- THE STEPS OF A PLAN lead to the children after it.
-use Rattle.std.proofs.Common.{◌≡◌, ◌≢◌, ℕ, zero, suc, ◌+◌, ◌≤◌, List, [], ◌∷◌, ◌++◌, length, Bool, true, false, cond, not, Option, Some, None, refl, sym, ap, subst, ◌∙◌, inl, inr, arith}
-use Rattle.std.specs.Prelude.{◌⊎◌, ◌&&◌, ◌||◌, filter, find}
-use Rattle.std.specs.List.{AllByRecursion, list_any}
+use Rattle.std.proofs.Common.{◌≡◌, ◌≢◌, ℕ, suc, ◌≤◌, List, [], ◌∷◌, ◌++◌, length, Bool, true, false, cond, not, refl, sym, ap, subst, ◌∙◌, inl, inr, arith}
+use Rattle.std.specs.Prelude.{◌⊎◌, ◌&&◌, ◌||◌, filter}
+use Rattle.std.specs.List.{AllByRecursion}
 use Rattle.std.specs.Ordering.{is_eq, ordering_reverse}
 use Rattle.std.specs.declared.cmp.Ordering.{Ordering}
 use Rattle.std.specs.declared.cmp.Ordering.TheVariants.{Less, Equal, Greater}
@@ -10,22 +10,21 @@ use Rattle.repl_data.specs.declared.csn.Uid.{Uid}
 use Rattle.repl_data.specs.Order.{uid_cmp, uid_eq, suffix_id, by_order}
 use Rattle.repl_data.specs.Facts.{EntryFacts}
 use Rattle.repl_data.specs.Presence.{is_live, HasParentBelow}
-use Rattle.repl_data.proofs.Orders.{uid_total, uid_exact, split}
-use Rattle.repl_data.proofs.InOrder.{is_equal, put-Rises}
+use Rattle.repl_data.proofs.Orders.{uid_total, split}
+use Rattle.repl_data.proofs.InOrder.{put-Rises}
 use Rattle.urp_tree.specs.declared.child.Child.{Child}
 use Rattle.urp_tree.specs.declared.step.Step.{Step}
 use Rattle.urp_tree.specs.declared.step.Step.TheVariants.{Enter, Leave}
 use Rattle.urp_tree.specs.Index.{stands_below, is_among_children, put_child, without_child, HasRisingIds, IsOneOf}
-use Rattle.urp_tree.specs.Walk.{child_of, children_of_facts, stepped, step_of, child_in, IsTrueOf}
+use Rattle.urp_tree.specs.Walk.{child_of, stepped, step_of, child_in, IsTrueOf}
 use Rattle.urp_tree.specs.Known.{put_fact, fact_id, HasRisingFacts}
-use Rattle.urp_tree.specs.Climb.{count_below, IsFound, IsChain, leaves, enters, AreTrue, IsApart, AreApart, IsWay}
+use Rattle.urp_tree.specs.Climb.{count_below, IsFound, IsChain, leaves, enters, AreTrue, IsApart, AreApart}
 use Rattle.urp_tree.proofs.Children.{IsBelowAll, filter_put, put_back, without_fresh, only, fewer, filters}
 use Rattle.urp_tree.proofs.Walks.{stepped_last}
 use Rattle.urp_tree.proofs.Settled.{all_put}
 use Rattle.urp_tree.proofs.Stays.{any_below}
-use Rattle.urp_tree.proofs.Shield.{shown_by, shown_by_live}
-use Rattle.urp_tree.proofs.Stays.{Replaces, children_stay}
-use Rattle.urp_tree.proofs.Levels.{held, StandsAt, AllAbove, AllBelow, the_one, id_at, all_at, found_at, at_put, self_put, own_none, lower_none, any_tail, same_shown, any_held, unheld, shown_at, held_shows, goes_up, all_above_at}
+use Rattle.urp_tree.proofs.Shield.{shown_by}
+use Rattle.urp_tree.proofs.Levels.{held, StandsAt, AllAbove, AllBelow, id_at, all_at, found_at, at_put, any_held, unheld, held_shows, goes_up}
 
 decide : {G : Type 0} (b : Bool) → (b ≡ true → G) → (b ≡ false → G) → G
 decide true f g = f refl
@@ -275,8 +274,7 @@ module _ (e : EntryFacts) (fs : List EntryFacts) (rises : HasRisingFacts fs) (be
       (λ x k. rest x (uid_total.trans x p u k lower)
       ∙ count_kept x (child_of f) S rising member (ap (λ o. is_eq o && not (uid_eq f.id suffix_id)) (swap_less x p k))
       ∙ ap (count_below x) (as_id ∙ sym next)) in
-      let step : without_child c.id S ≡ shown_by (held is_live p) after = ap (λ (d : Child). without_child d.id S) h.2 ∙ as_id ∙ sym next in
-      (
+      let step : without_child c.id S ≡ shown_by (held is_live p) after = ap (λ (d : Child). without_child d.id S) h.2 ∙ as_id ∙ sym next in (
         (
           (subst (λ (d : Child). IsOneOf d S) (sym h.2) member, subst (λ (d : Child). stands_below d.parent d ≡ true) (sym h.2) child),
           few (held is_live u),
@@ -329,8 +327,7 @@ module _ (e : EntryFacts) (fs : List EntryFacts) (rises : HasRisingFacts fs) (be
       let rising : HasRisingIds S = rising_shown (held dropped u) after rises_after in
       let more = up cs p chain under was chain' in
       let stage : stepped (enters chain) cs ≡ without_child c.id S = more.1 ∙ next ∙ ap (λ v. without_child v S) (sym is) ∙ ap (λ (d : Child). without_child d.id S) (sym h.2) in
-      let member' : IsOneOf c S = subst (λ (d : Child). IsOneOf d S) (sym h.2) member in
-      (
+      let member' : IsOneOf c S = subst (λ (d : Child). IsOneOf d S) (sym h.2) member in (
         true_last (suc (length fs)) (enters chain) (Enter c) cs more.0
             (subst (λ ds. is_among_children c.id ds ≡ false) (sym stage) (among_without c.id S), subst (λ (d : Child). stands_below d.parent d ≡ true) (sym h.2) child)
             (subst (λ ds. length ds ≤ suc (length fs)) (sym more.1) (few (held dropped p))),

@@ -53,12 +53,7 @@ fn weak_at(rows: &Rows, id: Uid, children: usize) -> Option<&StampedEntry>
 
 /// From an entry upward, those that are not live and have just so many present children. One
 /// look-up and a copy of the name for each.
-fn chain(
-    rows: &Rows,
-    alloc: Global,
-    from: Uid,
-    children: usize,
-) -> Result<ChildList, NoMemory>
+fn chain(rows: &Rows, alloc: Global, from: Uid, children: usize) -> Result<ChildList, NoMemory>
     requires tree { IsTree rows.now None [] }
     requires ordered { IsOrdered uid_cmp rows.now }
     requires there { is_among_entries (facts_in rows.now.entries) from ≡ true }
@@ -151,12 +146,7 @@ fn shows(entry: &StampedEntry, children: usize) -> bool
 }
 
 /// The steps where an entry takes the place of the one in its row.
-fn way_from(
-    rows: &Rows,
-    alloc: Global,
-    row: &Row,
-    new: &StampedEntry,
-) -> Result<StepList, NoMemory>
+fn way_from(rows: &Rows, alloc: Global, row: &Row, new: &StampedEntry) -> Result<StepList, NoMemory>
     requires tree { IsTree rows.now None [] }
     requires ordered { IsOrdered uid_cmp rows.now }
     requires row { row_at rows.now new.now.id ≡ Some row.now }

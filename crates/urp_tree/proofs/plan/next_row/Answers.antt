@@ -1,6 +1,5 @@
-use Rattle.std.proofs.Common.{◌≡◌, Some, true, sym, ap, ◌∙◌}
+use Rattle.std.proofs.Common.{sym, ap, ◌∙◌}
 use Rattle.std.specs.Option.{option_copied}
-use Rattle.urp_tree.specs.Rows.{row_at}
 use Rattle.urp_tree.proofs.Fits.{on_each, next_new, next_row_of, row_id}
 use Rattle.urp_tree.proofs.plan.next_row.Goals as goal
 

@@ -1,6 +1,4 @@
-use Rattle.std.proofs.Common.{◌≡◌, Some, None, true, sym, ap, subst, ◌∙◌}
-use Rattle.std.specs.BTreeMap.{get}
-use Rattle.repl_data.specs.Order.{uid_cmp}
+use Rattle.std.proofs.Common.{sym, ap, subst, ◌∙◌}
 use Rattle.urp_tree.specs.Rows.{facts_in, AreKeyed}
 use Rattle.urp_tree.proofs.Moves.{facts_given, keyed_given, rows_given}
 use Rattle.urp_tree.proofs.seat.give_back.Goals as goal

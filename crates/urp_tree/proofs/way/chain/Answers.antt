@@ -1,5 +1,4 @@
-use Rattle.std.proofs.Common.{◌≡◌, ℕ, List, [], ◌∷◌, ◌++◌, true, sym, ap, subst, ◌∙◌, append_assoc, append-nil}
-use Rattle.repl_data.specs.Presence.{is_among_entries}
+use Rattle.std.proofs.Common.{[], ◌∷◌, ◌++◌, sym, ap, subst, ◌∙◌, append_assoc, append-nil}
 use Rattle.urp_tree.specs.declared.child.Child.{Child}
 use Rattle.urp_tree.specs.Rows.{facts_in}
 use Rattle.urp_tree.specs.Walk.{children_in}

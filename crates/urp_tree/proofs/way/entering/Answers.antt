@@ -1,4 +1,4 @@
-use Rattle.std.proofs.Common.{◌≡◌, List, [], ◌∷◌, ◌++◌, sym, ap, ◌∙◌}
+use Rattle.std.proofs.Common.{◌++◌, ap, ◌∙◌}
 use Rattle.urp_tree.specs.Climb.{enters}
 use Rattle.urp_tree.proofs.Chains.{enter_next}
 use Rattle.urp_tree.proofs.way.entering.Goals as goal

@@ -1,4 +1,4 @@
-use Rattle.std.proofs.Common.{◌≡◌, suc, length, sym, ap, subst, ◌∙◌}
+use Rattle.std.proofs.Common.{suc, length, sym, subst, ◌∙◌}
 use Rattle.urp_tree.specs.Rows.{facts_in}
 use Rattle.urp_tree.specs.Climb.{IsWay}
 use Rattle.urp_tree.proofs.Fits.{way_same, own_below, own_rooted, own_modified, own_child, own_parent, own_live}

@@ -1,4 +1,4 @@
-use Rattle.std.proofs.Common.{◌≡◌, suc, length, sym, subst}
+use Rattle.std.proofs.Common.{suc, length, sym, subst}
 use Rattle.urp_tree.specs.Rows.{facts_in}
 use Rattle.urp_tree.specs.Climb.{IsWay}
 use Rattle.urp_tree.proofs.Fits.{on_each, way_moves, way_goes, way_comes, way_rests}
