@@ -1,0 +1,6 @@
+pub mod Index
+pub mod Rows
+pub mod Walk
+pub mod Planned
+pub mod Known
+pub mod Climb

@@ -1,0 +1,16 @@
+//! The view of a replica, kept as a tree of its entries.
+#![tactic(auto)]
+
+mod child;
+mod laws;
+mod plan;
+mod room;
+mod row;
+mod seat;
+mod step;
+mod tree;
+mod way;
+
+pub use laws::tree_laws;
+pub use plan::Plan;
+pub use tree::UrpTree;
