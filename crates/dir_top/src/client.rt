@@ -13,7 +13,7 @@ use std::marker::Model;
 /// connection has not ended.
 ///
 /// Contracts see the bytes of the message that it has begun, and whom it speaks for.
-#[derive(Debug, Drop)]
+#[derive(Drop)]
 pub struct Client {
     conn: Conn,
 }

@@ -14,7 +14,7 @@ ghost use Rattle.dir_top.specs.Script.{step_of, line_limit, length_limit, output
 ghost use Rattle.dir_top.specs.Converges.{ConvergesThroughout};
 ghost use Rattle.dir_top.specs.Running.{Stands, Reads, IsWithin, content_at, IsFromLine, IsFromRun, wrong_word};
 
-use crate::line::read_line;
+use crate::line::{Line, read_line};
 use crate::script::{Step, take_line};
 use crate::state::State;
 use crate::status::Status;
@@ -28,7 +28,7 @@ use world_core::judge_laws;
 const LINE_LIMIT: u32 = 1_000_000;
 
 /// A script that is being read: the world so far, the part of a line that has come, and how many lines came before it.
-#[derive(Debug, Drop)]
+#[derive(Drop)]
 pub(crate) struct Script {
     pub world: Option<State>,
     pub line: Bytes,
@@ -42,8 +42,13 @@ fn carry_text(alloc: Global, world: &mut Option<State>, text: &[u8]) -> Result<S
     let Some(line) = read_line(alloc, text)? else {
         return Ok(Step::Refuses(LineWhy::Grammar));
     };
-    take_line(alloc, world, &line)
+    let step = take_line(alloc, world, &line);
+    lose_line(line);
+    step
 }
+
+/// Drops a line. (A proof reads a drop of one in place, and its cases are many.)
+fn lose_line(_line: Line) {}
 
 /// The content of a line, which a line feed ended or not.
 fn content(line: &[u8], is_ended: bool) -> &[u8]

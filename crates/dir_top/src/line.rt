@@ -10,7 +10,7 @@ use std::alloc::Global;
 
 /// A line of the script. N, A and B are node numbers from 1 to 8, C is a connection number from 1 to
 /// 64, and K a ticket number from 1 to 1,000,000.
-#[derive(Debug, Drop)]
+#[derive(Drop)]
 pub enum Line {
     /// An empty line or a comment: it does nothing.
     Nothing,

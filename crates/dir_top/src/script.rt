@@ -6,6 +6,7 @@ ghost use Rattle.dir_top.specs.declared.state.State.{State};
 ghost use Rattle.dir_top.specs.State.{connection_in, holds_part};
 ghost use Rattle.dir_top.specs.Message.{request_of, is_built_write};
 ghost use Rattle.dir_top.specs.Script.{TheNode, TheConnection, NewConnection, TheTicket, NewTicket, TheUpdate, why_name, why_state, first_why, is_committed, why_if, is_one_write, is_write_to_come, is_to_come, is_started, line_step, owes, start_by, start_of};
+ghost use Rattle.dir_top.specs.Report.{start_text};
 ghost use Rattle.dir_top.specs.Step.{meant, IsEventLine};
 
 use crate::line::Line;
@@ -22,7 +23,7 @@ use std::alloc::Global;
 use world_core::{Event, Happened};
 
 /// What became of a line.
-#[derive(Debug, Drop)]
+#[derive(Drop)]
 pub(crate) enum Step {
     /// It was carried out, and prints this.
     GoesOn(Bytes),
@@ -272,6 +273,9 @@ impl State {
     }
 }
 
+/// Drops a request. (A proof reads a drop of one in place, and its cases are many.)
+fn lose_request(_request: Request) {}
+
 fn is_started(happened: &Happened) -> bool
     ensures { result ≡ is_started happened.now }
 {
@@ -306,6 +310,7 @@ impl State {
             },
         ) = self.connection(c)
         else {
+            lose_request(request);
             return Ok(Bytes::new(alloc));
         };
         let owed = Owed {
@@ -321,8 +326,21 @@ impl State {
             bound: client.bound(),
         };
         let happened = self.world.step(alloc, event)?;
+        self.tell_start(alloc, owed, happened)
+    }
+
+    /// What is printed of the begin of a ticket for which this client waits.
+    fn tell_start(
+        &mut self,
+        alloc: Global,
+        owed: Owed,
+        happened: Happened,
+    ) -> Result<Bytes, NoMemory>
+        ensures state { OnOk result (self.new ≡ record self.old { owed = owes happened self.old.owed owed }) }
+        ensures text { IfOk result (λ text. text ≡ start_text owed.ticket owed.connection owed.id happened) }
+    {
         self.owe(&happened, owed)?;
-        start_text(alloc, k, c, owed.id, &happened)
+        start_text(alloc, owed.ticket, owed.connection, owed.id, &happened)
     }
 
     /// The first reason against a ticket for the write of a connection.

@@ -12,7 +12,7 @@ use std::mem;
 use world_core::World;
 
 /// A connection of the script.
-#[derive(Debug, Drop)]
+#[derive(Drop)]
 pub enum Connection {
     Closed,
     Open {
@@ -34,7 +34,7 @@ pub struct Owed {
 }
 
 /// A world, the connections to its nodes, and who waits for the answer to a ticket.
-#[derive(Debug, Drop)]
+#[derive(Drop)]
 pub struct State {
     pub world: World,
     /// 64 connections; connection C stands at place C - 1.

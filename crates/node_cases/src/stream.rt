@@ -9,43 +9,83 @@ use crate::connection::replies;
 use crate::made;
 use case_lines::{CaseFault, Fields, or_memory, tell_bytes};
 use conn_core::Conn;
+use node_core::NodeState;
 use repl_data::{Bytes, NoMemory};
 use std::alloc::Global;
 use std::fmt::Write;
 
-/// The replies to a stream in two pieces.
-fn told_in_two(alloc: Global, first: &[u8], second: &[u8]) -> Result<Bytes, NoMemory> {
-    let mut node = made::node(alloc, 1)?;
-    let mut conn = Conn::new(alloc)?;
-    let _first = conn.feed(alloc, &mut node, 100, first)?;
-    let _second = conn.feed(alloc, &mut node, 100, second)?;
-    replies(alloc, &mut conn)
+/// How a stream comes.
+#[derive(Clone, Copy)]
+enum Way {
+    /// In two pieces, cut at this place.
+    Cut(usize),
+    Bytewise,
+    Held,
 }
 
-/// The replies to a stream that comes byte by byte.
-fn told_bytewise(alloc: Global, stream: &[u8]) -> Result<Bytes, NoMemory> {
-    let mut node = made::node(alloc, 1)?;
-    let mut conn = Conn::new(alloc)?;
+fn feed_cut(
+    alloc: Global,
+    conn: &mut Conn,
+    node: &mut NodeState,
+    stream: &[u8],
+    cut: usize,
+) -> Result<(), NoMemory> {
+    let (first, second) = stream.split_at(cut.min(stream.len()));
+    let _first = conn.feed(alloc, node, 100, first)?;
+    let _second = conn.feed(alloc, node, 100, second)?;
+    Ok(())
+}
+
+fn feed_bytewise(
+    alloc: Global,
+    conn: &mut Conn,
+    node: &mut NodeState,
+    stream: &[u8],
+) -> Result<(), NoMemory> {
     for byte in stream {
-        let _fed = conn.feed(alloc, &mut node, 100, [*byte].as_slice())?;
+        let _fed = conn.feed(alloc, node, 100, [*byte].as_slice())?;
     }
-    replies(alloc, &mut conn)
+    Ok(())
 }
 
-/// The replies to a stream that is held first.
-fn told_held(alloc: Global, stream: &[u8]) -> Result<Bytes, NoMemory> {
-    let mut node = made::node(alloc, 1)?;
-    let mut conn = Conn::new(alloc)?;
+fn feed_held(
+    alloc: Global,
+    conn: &mut Conn,
+    node: &mut NodeState,
+    stream: &[u8],
+) -> Result<(), NoMemory> {
     conn.hold(stream)?;
-    let _fed = conn.feed(alloc, &mut node, 100, b"".as_slice())?;
-    replies(alloc, &mut conn)
+    let _fed = conn.feed(alloc, node, 100, b"".as_slice())?;
+    Ok(())
+}
+
+/// The replies to a stream that comes so.
+fn fed(
+    alloc: Global,
+    conn: &mut Conn,
+    node: &mut NodeState,
+    stream: &[u8],
+    way: Way,
+) -> Result<Bytes, NoMemory> {
+    match way {
+        Way::Cut(cut) => feed_cut(alloc, conn, node, stream, cut)?,
+        Way::Bytewise => feed_bytewise(alloc, conn, node, stream)?,
+        Way::Held => feed_held(alloc, conn, node, stream)?,
+    }
+    replies(alloc, conn)
+}
+
+/// The same on a new connection of a new node.
+fn told_anew(alloc: Global, stream: &[u8], way: Way) -> Result<Bytes, NoMemory> {
+    let mut conn = Conn::new(alloc)?;
+    let mut node = made::node(alloc, 1)?;
+    fed(alloc, &mut conn, &mut node, stream, way)
 }
 
 /// The first place where a cut changes the replies, if there is one.
 fn wrong_cut(alloc: Global, stream: &[u8], wanted: &Bytes) -> Result<Option<usize>, NoMemory> {
     for cut in 0..stream.len() {
-        let (first, second) = stream.split_at(cut);
-        let told = told_in_two(alloc, first, second)?;
+        let told = told_anew(alloc, stream, Way::Cut(cut))?;
         if told.as_slice() != wanted.as_slice() {
             return Ok(Some(cut));
         }
@@ -69,28 +109,26 @@ pub fn ask(
             stream.extend_from_slice(fields.bytes(alloc)?.as_slice())?;
             Ok(())
         }
-        way => tell_replies(alloc, stream.as_slice(), way, told),
+        "whole" => tell_replies(alloc, stream.as_slice(), Way::Cut(0), told),
+        "bytewise" => tell_replies(alloc, stream.as_slice(), Way::Bytewise, told),
+        "held" => tell_replies(alloc, stream.as_slice(), Way::Held, told),
+        "cut" => tell_cut(alloc, stream.as_slice(), told),
+        _ => Err(CaseFault::Argument),
     }
 }
 
 fn tell_replies(
     alloc: Global,
     stream: &[u8],
-    way: &str,
+    way: Way,
     told: &mut String,
 ) -> Result<(), CaseFault> {
-    let replies = match way {
-        "whole" => told_in_two(alloc, stream, b"".as_slice()),
-        "bytewise" => told_bytewise(alloc, stream),
-        "held" => told_held(alloc, stream),
-        "cut" => return tell_cut(alloc, stream, told),
-        _ => return Err(CaseFault::Argument),
-    };
-    tell_bytes(told, or_memory(replies)?.as_slice())
+    let replies = or_memory(told_anew(alloc, stream, way))?;
+    tell_bytes(told, replies.as_slice())
 }
 
 fn tell_cut(alloc: Global, stream: &[u8], told: &mut String) -> Result<(), CaseFault> {
-    let replies = or_memory(told_in_two(alloc, stream, b"".as_slice()))?;
+    let replies = or_memory(told_anew(alloc, stream, Way::Cut(0)))?;
     if let Some(cut) = or_memory(wrong_cut(alloc, stream, &replies))? {
         write!(told, "others, cut at {cut}")?;
         return Ok(());

@@ -4,7 +4,7 @@ use crate::notation::add_line;
 use std::alloc::{AllocError, Global};
 
 /// The part of a block that a line stands in.
-#[derive(Clone, Copy, Debug)]
+#[derive(Clone, Copy)]
 enum Part {
     Head,
     Script,
@@ -26,7 +26,7 @@ fn part_of(word: &str) -> Part {
 }
 
 /// Scripts that are to end in the same way.
-#[derive(Debug, Drop)]
+#[derive(Drop)]
 pub struct Block<'a> {
     /// What they show.
     pub name: &'a str,

@@ -5,13 +5,12 @@ ghost use Rattle.std.specs.Prelude.{◌<◌};
 use crate::block::Block;
 use dir_top::{Status, exec_main};
 use io_edge::{MemSink, MemSource};
-use repl_data::NoMemory;
 use std::alloc::{AllocError, Global};
 use std::fmt::Write;
 use std::str;
 
 /// How many scripts there were, in how many runs, and how many of these differ.
-#[derive(Clone, Copy, Debug, Eq, PartialEq)]
+#[derive(Clone, Copy)]
 pub struct Tally {
     pub scripts: u64,
     pub runs: u64,
@@ -96,7 +95,7 @@ fn judge_script(
 }
 
 /// What a run came to: its status in words, and what it wrote.
-#[derive(Debug, Drop)]
+#[derive(Drop)]
 struct Run {
     status: String,
     output: Vec<u8>,
@@ -166,12 +165,15 @@ fn numbers(alloc: Global, text: &str) -> Result<Vec<u64>, AllocError> {
 
 /// The number of a status, and its text where it has one.
 fn status_words(alloc: Global, status: &Status) -> Result<String, AllocError> {
-    let number = status.number();
-    match status.text(alloc) {
-        Ok(text) if text.is_empty() => format!(in alloc; "{number}"),
-        Ok(text) => format!(in alloc; "{number} {}", printed(text.as_slice())),
-        Err(NoMemory) => Err(AllocError),
+    let mut words = format!(in alloc; "{}", status.number())?;
+    let Ok(text) = status.text(alloc) else {
+        return Err(AllocError);
+    };
+    if !text.is_empty() {
+        words.push_str(" ")?;
+        words.push_str(printed(text.as_slice()))?;
     }
+    Ok(words)
 }
 
 fn printed(bytes: &[u8]) -> &str {
