@@ -2,28 +2,16 @@
 
 ghost use Rattle.std.specs.Prelude.{◌<◌};
 
+use case_views::example_suffix;
 use node_core::NodeState;
-use repl_data::{AttrKey, Ava, Bytes, Items, NoMemory, Rdn, Suffix, Val};
+use repl_data::{NoMemory, Suffix};
 use std::alloc::Global;
 
-fn ava(alloc: Global) -> Result<Ava, NoMemory> {
-    let name = Bytes::from_slice(alloc, b"dc".as_slice())?;
-    let key = Bytes::from_slice(alloc, b"example".as_slice())?;
-    let spelled = Bytes::from_slice(alloc, b"example".as_slice())?;
-    Ok(Ava {
-        attr: AttrKey { name },
-        val: Val { key, spelled },
-    })
-}
-
 pub fn suffix(alloc: Global) -> Result<Suffix, NoMemory> {
-    let name = Bytes::from_slice(alloc, b"dc=example".as_slice())?;
-    let mut avas = Items::new(alloc);
-    avas.push(ava(alloc)?)?;
-    Ok(Suffix {
-        name,
-        rdn: Rdn { avas },
-    })
+    match example_suffix(alloc) {
+        Ok(suffix) => Ok(suffix),
+        Err(_) => Err(NoMemory),
+    }
 }
 
 /// A node that has taken nothing.
