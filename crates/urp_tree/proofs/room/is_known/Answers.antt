@@ -1,4 +1,4 @@
-use Rattle.std.proofs.Common.{◌≡◌, sym, ap, ◌∙◌}
+use Rattle.std.proofs.Common.{sym, ap, ◌∙◌}
 use Rattle.std.specs.Option.{option_copied}
 use Rattle.urp_tree.proofs.Fits.{no_row, row_among}
 use Rattle.urp_tree.proofs.room.is_known.Goals as goal

@@ -1,6 +1,3 @@
-use Rattle.std.proofs.Common.{◌≡◌, sym, ap, ◌∙◌}
-use Rattle.repl_data.specs.Presence.{is_among_entries}
-use Rattle.urp_tree.specs.Known.{Known}
 use Rattle.urp_tree.proofs.Plans.{idle}
 use Rattle.urp_tree.proofs.tree.UrpTree.is_known.Goals as goal
 
