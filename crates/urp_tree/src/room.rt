@@ -6,10 +6,12 @@ ghost use Rattle.repl_data.specs.Order.{uid_cmp};
 ghost use Rattle.urp_tree.specs.declared.step.Step.{Step};
 ghost use Rattle.urp_tree.specs.Rows.{facts_in};
 ghost use Rattle.urp_tree.specs.Known.{IsTree, HasSeat};
+ghost use Rattle.repl_data.specs.Presence.{is_among_entries};
 ghost use Rattle.urp_tree.specs.Climb.{RoomFor};
 
 use crate::seat::{Rows, give_back, make_room, seat, tidy};
 use crate::step::Step;
+use crate::way::row_of;
 use repl_data::{NoMemory, Uid};
 use std::alloc::Global;
 
@@ -20,6 +22,18 @@ pub(crate) fn seat_count(rows: &Rows) -> usize
     ensures ordered { IsOrdered uid_cmp rows.now }
 {
     rows.len()
+}
+
+/// The entry was added, or is the suffix entry. One look-up.
+pub(crate) fn is_known(rows: &Rows, id: Uid) -> bool
+    requires { IsTree rows.now None [] }
+    ensures { result ≡ is_among_entries (facts_in rows.now.entries) id }
+{
+    let _seats = seat_count(rows);
+    match row_of(rows, id) {
+        Some(_) => true,
+        None => false,
+    }
 }
 
 fn room_for(rows: &mut Rows, alloc: Global, step: &Step) -> Result<(), NoMemory>
