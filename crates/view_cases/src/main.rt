@@ -7,7 +7,7 @@ mod shown;
 
 use case_lines::{CaseFault, Fields, Subjects, run_cases};
 use case_views::{Taken, example_suffix};
-use plain_view::{PlainView, plain_view_laws};
+use plain_view::PlainView;
 use repl_data::Suffix;
 use std::alloc::Global;
 use std::process::ExitCode;
@@ -59,7 +59,6 @@ fn without_changes(alloc: Global) -> Result<Views, CaseFault> {
 }
 
 fn main(rt: HostRuntime) -> ExitCode {
-    plain_view_laws();
     match without_changes(rt.alloc()) {
         Ok(mut views) => run_cases(&rt, &mut views),
         Err(_) => ExitCode::from(2),
