@@ -1,6 +1,7 @@
 //! The view of a replica, kept as a tree of its entries.
 #![tactic(auto)]
 
+mod asked;
 mod child;
 mod laws;
 mod plan;
