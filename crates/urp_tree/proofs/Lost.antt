@@ -14,7 +14,7 @@ use Rattle.repl_data.specs.Order.{csn_cmp, csn_lt, zero_csn, uid_eq, suffix_id, 
 use Rattle.repl_data.specs.Facts.{EntryFacts}
 use Rattle.repl_data.specs.Presence.{is_live, present_of}
 use Rattle.repl_data.specs.Names.{is_before, contends_with, has_name, is_id_part, has_id, id_ava, with_id, shown_rdn}
-use Rattle.repl_data.specs.View.{view_of_facts, lost_name}
+use Rattle.repl_data.specs.View.{DirectoryView, view_of_facts, lost_name, lost_dn}
 use Rattle.repl_data.specs.declared.view.Standing.{Standing}
 use Rattle.repl_data.specs.Lent.{standing, standing_of}
 use Rattle.repl_data.proofs.Orders.{split, rdn_key_total, rdn_key_exact}
@@ -27,7 +27,7 @@ use Rattle.urp_tree.specs.Index.{contender, wants, wanting}
 use Rattle.urp_tree.specs.Walk.{child_of}
 use Rattle.urp_tree.specs.Known.{IsPlain, IsLiveRoot}
 use Rattle.urp_tree.specs.declared.row.Row.{Row}
-use Rattle.urp_tree.specs.Seen.{present_entry, IsPresentRow, IsKept}
+use Rattle.urp_tree.specs.Seen.{present_entry, contested_dn, IsPresentRow, IsKept}
 use Rattle.urp_tree.proofs.Fits.{never}
 
 decide : {G : Type 0} (b : Bool) → (b ≡ true → G) → (b ≡ false → G) → G
@@ -139,3 +139,40 @@ standing_kept es u r h k suffix live lost l is =
 
 pub standing_none : (es : List EntryFacts) (u : Uid) → IsPresentRow es u None → (suffix : List ℕ) → None ≡ standing_of (view_of_facts suffix es) u
 standing_none es u h suffix = ap (option_map standing) (sym (h suffix))
+
+-- the name that shows
+pub shown_lost : (present : List EntryFacts) (e : EntryFacts) → true ≡ not (has_name present e) → with_id e.id e.rdn ≡ shown_rdn present e
+shown_lost present e h = by (has_name present e) h
+  where
+    by : (b : Bool) → true ≡ not b → with_id e.id e.rdn ≡ cond b e.rdn (with_id e.id e.rdn)
+    by true k = let f : true ≡ false = k in cc
+    by false k = refl
+
+pub shown_kept : (present : List EntryFacts) (e : EntryFacts) → false ≡ not (has_name present e) → e.rdn ≡ shown_rdn present e
+shown_kept present e h = by (has_name present e) h
+  where
+    by : (b : Bool) → false ≡ not b → e.rdn ≡ cond b e.rdn (with_id e.id e.rdn)
+    by true k = refl
+    by false k = let f : false ≡ true = k in cc
+
+pub lost_printed : (present : List EntryFacts) (e : EntryFacts) (dn : List ℕ) → true ≡ not (has_name present e) → Some dn ≡ cond (has_name present e) None (Some dn)
+lost_printed present e dn h = by (has_name present e) h
+  where
+    by : (b : Bool) → true ≡ not b → Some dn ≡ cond b None (Some dn)
+    by true k = let f : true ≡ false = k in cc
+    by false k = refl
+
+pub none_printed : (present : List EntryFacts) (e : EntryFacts) (dn : List ℕ) → false ≡ not (has_name present e) → None ≡ cond (has_name present e) None (Some dn)
+none_printed present e dn h = by (has_name present e) h
+  where
+    by : (b : Bool) → false ≡ not b → None ≡ cond b None (Some dn)
+    by true k = refl
+    by false k = let f : false ≡ true = k in cc
+
+-- the name that it lost, as the view has it
+pub lost_dn_is : (v : DirectoryView) (present : List EntryFacts) (e : EntryFacts) → IsPlain e → IsLiveRoot e → cond (has_name present e) None (Some (contested_dn v e)) ≡ lost_dn v (present_entry present e)
+lost_dn_is v present e plain live = by (has_name present e) ∙ ap (λ b. cond b (Some (contested_dn v e)) None) (sym (lost_shown e present plain live))
+  where
+    by : (b : Bool) → cond b None (Some (contested_dn v e)) ≡ cond (not b) (Some (contested_dn v e)) None
+    by true = refl
+    by false = refl

@@ -19,13 +19,13 @@ use Rattle.urp_tree.specs.declared.row.Row.{Row}
 use Rattle.urp_tree.specs.Rows.{row_at, facts_in}
 use Rattle.urp_tree.specs.Walk.{child_of, children_in}
 use Rattle.urp_tree.specs.Known.{IsTree, IsPlain, HasRisingFacts}
-use Rattle.urp_tree.specs.Seen.{present_entry}
+use Rattle.urp_tree.specs.Seen.{present_entry, IsChildAt, IsHere}
 use Rattle.urp_tree.proofs.Settled.{all_present}
 use Rattle.urp_tree.proofs.Levels.{AllAbove, all_above_at, all_at, self_eq}
 use Rattle.urp_tree.proofs.Ways.{below_parent}
 use Rattle.urp_tree.proofs.Chains.{lower_count, lower_lt}
-use Rattle.urp_tree.proofs.Seen.{IsOnly, rule, only, at, any_child}
-use Rattle.urp_tree.proofs.Fits.{never, row_there, row_id, row_stands}
+use Rattle.urp_tree.proofs.Seen.{IsOnly, rule, only, at, any_child, fewer_present}
+use Rattle.urp_tree.proofs.Fits.{never, no_row, row_there, row_id}
 
 decide : {G : Type 0} (b : Bool) → (b ≡ true → G) → (b ≡ false → G) → G
 decide true f g = f refl
@@ -173,3 +173,44 @@ module _ (rows : BTreeMap Uid (Option Row)) (tree : IsTree rows None []) (ordere
         (ap (λ ps. path_among ps e.parent) falling
         ∙ skip e.parent high (shows e ∷ low) (turned_all (λ (p : PresentEntry). uid_eq p.id e.parent ≡ false) (map shows split.high) (other_above shows (λ e. refl) e.parent split.high (all_above_at e.parent u split.high lower split.above)))
         ∙ one_step (shows e) low e.parent false (uid_eq e.parent suffix_id) not_parent refl))
+
+  -- one step more on the way up
+  module _ (u : Uid) (e : EntryFacts) (k : IsChildAt rows u e) (here : is_among_entries present u ≡ true) (up : Uid) (above : up ≡ e.parent) where
+    up_is : up ≡ k.row.entry.parent
+    up_is = above ∙ ap (λ (x : EntryFacts). x.parent) (sym k.entry)
+
+    pub path_up : is_among_entries present up ≡ true
+    path_up = ap (is_among_entries present) up_is ∙ parent_here u k.row k.there here k.child
+
+    pub path_less : lower_count up facts < lower_count u facts
+    path_less = subst (λ v. lower_count v facts < lower_count u facts) (sym up_is) (parent_less u k.row k.there here k.child)
+
+    pub path_parent : is_among_entries facts e.parent ≡ true
+    path_parent = ap (λ (x : EntryFacts). is_among_entries facts x.parent) (sym k.entry) ∙ all_at (λ (x : EntryFacts). is_among_entries facts x.parent ≡ true) u k.row.entry facts (at rows tree ordered u k.row k.there) tree.rooted
+
+    pub path_more : (path : List Rdn) (name : Rdn) (all : List Rdn) → name ≡ shown_rdn present e → path ++ path_of (view_of_facts suffix facts) u ≡ all → (path ++ name ∷ []) ++ path_of (view_of_facts suffix facts) up ≡ all
+    path_more path name all n h =
+        append_assoc path (name ∷ []) (path_of (view_of_facts suffix facts) up)
+        ∙ ap (λ (rest : List Rdn). path ++ rest)
+        ((λ i. (n ∙ ap (shown_rdn present) (sym k.entry)) i ∷ path_of (view_of_facts suffix facts) (up_is i)) ∙ sym (path_child u k.row k.there here k.child))
+        ∙ h
+
+  pub path_end : (u : Uid) → (uid_eq u suffix_id ≡ false → row_at rows u ≡ None) → is_among_entries present u ≡ true → path_of (view_of_facts suffix facts) u ≡ []
+  path_end u none here =
+      decide (uid_eq u suffix_id)
+      (λ t. path_root u t)
+      (λ f. never (is_among_entries present u) here (fewer_present u facts (no_row rows tree ordered u (none f))))
+
+  -- a present entry and its parent
+  pub here_is : (u : Uid) (r : Row) → row_at rows u ≡ Some r → is_among_entries present u ≡ true → IsHere facts r
+  here_is u r there here = record {
+    own = ap (is_among_entries present) (row_id rows tree ordered u r there) ∙ here;
+    parent =
+        decide (uid_eq u suffix_id)
+        (λ t. let root : uid_eq r.entry.id suffix_id ≡ true = ap (λ v. uid_eq v suffix_id) (row_id rows tree ordered u r there) ∙ t in
+        ap (is_among_entries present) (((all_at IsPlain u r.entry facts (at rows tree ordered u r there) tree.plain).root root).1 ∙ sym (uid_exact u suffix_id (is_equal (uid_cmp u suffix_id) t))) ∙ here)
+        (λ f. parent_here u r there here f);
+  }
+
+pub among_facts : (u : Uid) (es : List EntryFacts) → is_among_entries (present_of es) u ≡ true → is_among_entries es u ≡ true
+among_facts u es h = decide (is_among_entries es u) (λ t. t) (λ f. never (is_among_entries (present_of es) u) h (fewer_present u es f))

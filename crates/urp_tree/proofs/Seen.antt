@@ -101,7 +101,7 @@ fewer p u (d ∷ es) h = by (p d) (uid_eq d.id u) refl h (fewer p u es)
     by false false o k more = more k
     by true false o k more = ap (λ b. b || is_among_entries (filter p es) u) o ∙ more k
 
-fewer_present : (u : Uid) (es : List EntryFacts) → is_among_entries es u ≡ false → is_among_entries (present_of es) u ≡ false
+pub fewer_present : (u : Uid) (es : List EntryFacts) → is_among_entries es u ≡ false → is_among_entries (present_of es) u ≡ false
 fewer_present u [] h = refl
 fewer_present u (d ∷ es) h = by (is_live d || list_any (is_child d.id) (present_of es)) (uid_eq d.id u) refl h (fewer_present u es)
   where

@@ -9,7 +9,7 @@ ghost use Rattle.repl_data.specs.Lent.{own_of, standing_of};
 ghost use Rattle.repl_data.specs.Order.{uid_cmp, uid_eq, suffix_id};
 ghost use Rattle.urp_tree.specs.Rows.{row_at, fact_of, facts_in};
 ghost use Rattle.urp_tree.specs.Known.{IsTree};
-ghost use Rattle.urp_tree.specs.Seen.{IsPresentRow, IsGoneRow, IsKept, gone_ids};
+ghost use Rattle.urp_tree.specs.Seen.{IsPresentRow, IsGoneRow, IsKept, IsHere, gone_ids};
 
 use crate::room::seat_count;
 use crate::row::Row;
@@ -24,6 +24,7 @@ pub(crate) fn present_row(rows: &Rows, id: Uid) -> Option<&Row>
     requires { IsTree rows.now None [] }
     ensures row { IsPresentRow (facts_in rows.now.entries) id (option_copied result) }
     ensures keeps { IfSome (option_copied result) (IsKept (facts_in rows.now.entries)) }
+    ensures here { IfSome (option_copied result) (IsHere (facts_in rows.now.entries)) }
 {
     let _seats = seat_count(rows);
     let Some(row) = row_of(rows, id) else {
@@ -52,7 +53,7 @@ pub(crate) fn gone_row(rows: &Rows, id: Uid) -> Option<&Row>
 }
 
 /// Another entry has the name that the entry contends for, or would. One look-up.
-fn lost(rows: &Rows, entry: &StampedEntry) -> bool
+pub(crate) fn lost(rows: &Rows, entry: &StampedEntry) -> bool
     requires tree { IsTree rows.now None [] }
     requires parent { is_among_entries (facts_in rows.now.entries) entry.now.parent ≡ true }
     ensures { result ≡ not (has_name (present_of (facts_in rows.now.entries)) entry.now) }
@@ -104,7 +105,7 @@ pub(crate) fn name(rows: &Rows, id: Uid) -> Option<&Rdn>
     }
 }
 
-fn is_root(id: Uid) -> bool
+pub(crate) fn is_root(id: Uid) -> bool
     ensures { result ≡ uid_eq id suffix_id }
 {
     id.csn.compare(Csn::ZERO).is_eq()

@@ -8,6 +8,7 @@ mod plan;
 mod room;
 mod row;
 mod seat;
+mod shown;
 mod step;
 mod tree;
 mod way;
