@@ -1,5 +1,5 @@
 -- WHO HAS ITS NAME, told by those who contend for it.
-use Rattle.std.proofs.Common.{◌≡◌, ℕ, List, [], ◌∷◌, ◌++◌, map, filter, Bool, true, false, cond, not, Option, Some, None, refl, sym, ap, subst, ◌∙◌}
+use Rattle.std.proofs.Common.{◌≡◌, ℕ, List, [], ◌∷◌, map, filter, Bool, true, false, cond, not, Some, None, refl, sym, ap, ◌∙◌}
 use Rattle.std.specs.Prelude.{◌&&◌, ◌||◌, option_map}
 use Rattle.std.specs.List.{list_any}
 use Rattle.std.specs.Ordering.{is_eq, is_lt}
@@ -17,7 +17,7 @@ use Rattle.repl_data.specs.Names.{is_before, contends_with, has_name, is_id_part
 use Rattle.repl_data.specs.View.{DirectoryView, view_of_facts, lost_name, lost_dn}
 use Rattle.repl_data.specs.declared.view.Standing.{Standing}
 use Rattle.repl_data.specs.Lent.{standing, standing_of}
-use Rattle.repl_data.proofs.Orders.{split, rdn_key_total, rdn_key_exact}
+use Rattle.repl_data.proofs.Orders.{rdn_key_total, rdn_key_exact}
 use Rattle.repl_data.proofs.InOrder.{is_equal}
 use Rattle.repl_data.proofs.ClosedLaws.{no_csn_below}
 use Rattle.urp_names.specs.declared.contenders.Contender.{Contender}

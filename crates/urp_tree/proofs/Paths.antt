@@ -1,10 +1,10 @@
 -- THE PATH of a present entry: its shown name, and then the path of its parent.
 use Rattle.std.proofs.Common.{◌≡◌, ℕ, ◌<◌, List, [], ◌∷◌, ◌++◌, map, reverse, Bool, true, false, cond, not, Option, Some, None, refl, sym, ap, subst, ◌∙◌, inl, inr, append_assoc}
-use Rattle.std.specs.Prelude.{◌⊎◌, ◌&&◌, ◌||◌}
+use Rattle.std.specs.Prelude.{◌&&◌, ◌||◌}
 use Rattle.std.specs.List.{AllByRecursion, list_any}
 use Rattle.std.specs.BTreeMap.{BTreeMap, IsOrdered as HasOrderedKeys}
 use Rattle.std.specs.Ordering.{is_eq, ordering_reverse}
-use Rattle.std.specs.declared.cmp.Ordering.TheVariants.{Less, Greater}
+use Rattle.std.specs.declared.cmp.Ordering.TheVariants.{Less}
 use Rattle.std.proofs.lemmas.List.{reverse-append}
 use Rattle.repl_data.specs.declared.csn.Uid.{Uid}
 use Rattle.repl_data.specs.declared.change.Rdn.{Rdn}
@@ -17,7 +17,6 @@ use Rattle.repl_data.proofs.Orders.{uid_total, uid_exact}
 use Rattle.repl_data.proofs.InOrder.{is_equal}
 use Rattle.urp_tree.specs.declared.row.Row.{Row}
 use Rattle.urp_tree.specs.Rows.{row_at, facts_in}
-use Rattle.urp_tree.specs.Walk.{child_of, children_in}
 use Rattle.urp_tree.specs.Known.{IsTree, IsPlain, HasRisingFacts}
 use Rattle.urp_tree.specs.Seen.{present_entry, IsChildAt, IsHere}
 use Rattle.urp_tree.proofs.Settled.{all_present}

@@ -13,7 +13,7 @@ use Rattle.repl_data.specs.declared.change.Body.TheVariants.{Add, Mod as Modify,
 use Rattle.repl_data.specs.declared.change.Change.{Change}
 use Rattle.repl_data.specs.declared.change.Malformed.TheVariants.{Derived}
 use Rattle.repl_data.specs.declared.change.Suffix.{Suffix}
-use Rattle.repl_data.specs.Order.{csn_lt, uid_cmp, uid_eq, suffix_id, zero_csn}
+use Rattle.repl_data.specs.Order.{csn_lt, uid_cmp, uid_eq, suffix_id}
 use Rattle.repl_data.specs.Types.{is_derived_attribute, is_derived_ava}
 use Rattle.repl_data.specs.Check.{fault_at, faults_of_frame, faults_of_body, derived_places, names_derived}
 use Rattle.repl_data.specs.Closed.{is_sound, needed}
@@ -24,11 +24,11 @@ use Rattle.repl_data.proofs.Sound.{neither, not_true, no_faults}
 use Rattle.repl_data.proofs.CheckLaws.{any-position}
 use Rattle.stamp_entry.specs.Raised.{facts_after, is_add, named_after, parent_after}
 use Rattle.urp_tree.specs.declared.row.Row.{Row}
-use Rattle.urp_tree.specs.Rows.{row_at, facts_in}
+use Rattle.urp_tree.specs.Rows.{facts_in}
 use Rattle.urp_tree.specs.Known.{entry_after, IsTree, IsPlain}
 use Rattle.urp_tree.specs.Climb.{is_modify}
 use Rattle.urp_tree.proofs.Levels.{all_at}
-use Rattle.urp_tree.proofs.Fits.{never, no_suffix, fact_new, row_stands, row_id, target_row, next_row_of, not_root, own_id}
+use Rattle.urp_tree.proofs.Fits.{never, no_suffix, fact_new, row_stands, row_id, target_row, next_row_of, not_root}
 
 decide : {G : Type 0} (b : Bool) → (b ≡ true → G) → (b ≡ false → G) → G
 decide true f g = f refl

@@ -3,7 +3,6 @@ use Rattle.std.proofs.Common.{◌≡◌, ℕ, zero, suc, ◌<◌, List, [], ◌�
 use Rattle.std.specs.Prelude.{◌||◌, find, option_map}
 use Rattle.std.specs.List.{AllByRecursion, list_any}
 use Rattle.std.specs.BTreeMap.{BTreeMap, IsOrdered as HasOrderedKeys}
-use Rattle.std.specs.Ordering.{is_eq}
 use Rattle.repl_data.specs.declared.csn.Uid.{Uid}
 use Rattle.repl_data.specs.Order.{uid_cmp, uid_eq, suffix_id}
 use Rattle.repl_data.specs.Facts.{EntryFacts}
@@ -11,9 +10,7 @@ use Rattle.repl_data.specs.Presence.{is_live, is_child, present_of, gone_of, is_
 use Rattle.repl_data.specs.View.{DirectoryView, PresentEntry, Tombstone, view_of_facts, present_at, gone_at, first_of_two, name_of, parent_of, user}
 use Rattle.repl_data.specs.Lent.{own_of}
 use Rattle.repl_data.proofs.PresenceLaws.{present_of-rule}
-use Rattle.urp_tree.specs.declared.child.Child.{Child}
 use Rattle.urp_tree.specs.declared.row.Row.{Row}
-use Rattle.urp_tree.specs.Index.{stands_below}
 use Rattle.urp_tree.specs.Rows.{row_at, facts_in}
 use Rattle.urp_tree.specs.Walk.{child_of, children_in}
 use Rattle.urp_tree.specs.Known.{IsTree, IsPlain, IsLiveRoot}

@@ -1,6 +1,5 @@
-use Rattle.std.proofs.Common.{◌≡◌, None, Some, refl, sym, ap, ◌∙◌}
+use Rattle.std.proofs.Common.{refl, sym, ap, ◌∙◌}
 use Rattle.std.specs.Option.{option_copied}
-use Rattle.urp_tree.specs.Rows.{row_at}
 use Rattle.urp_tree.proofs.Seen.{gone_shows, gone_hides, gone_none, kept}
 use Rattle.urp_tree.proofs.asked.gone_row.Goals as goal
 

@@ -1,11 +1,5 @@
-use Rattle.std.proofs.Common.{◌≡◌, None, Some, Option, map, sym, ap, ◌∙◌}
-use Rattle.std.specs.Prelude.{option_map}
-use Rattle.std.specs.Option.{option_copied}
-use Rattle.repl_data.specs.View.{PresentEntry, user}
-use Rattle.repl_data.specs.Presence.{present_of}
+use Rattle.std.proofs.Common.{Some, ap, ◌∙◌}
 use Rattle.urp_tree.specs.Rows.{facts_in}
-use Rattle.urp_tree.specs.declared.row.Row.{Row}
-use Rattle.urp_tree.specs.Seen.{IsPresentRow, IsKept}
 use Rattle.urp_tree.proofs.Seen.{own_kept, own_none}
 use Rattle.urp_tree.proofs.asked.own.Goals as goal
 

@@ -1,4 +1,4 @@
-use Rattle.std.proofs.Common.{◌≡◌, [], None, Some, refl, sym, ap, ◌∙◌}
+use Rattle.std.proofs.Common.{◌≡◌, [], Some, refl, sym, ap, ◌∙◌}
 use Rattle.std.specs.Option.{option_copied}
 use Rattle.urp_tree.specs.Rows.{row_at}
 use Rattle.urp_tree.proofs.Seen.{present_shows, present_hides, present_none, kept, shows_among}

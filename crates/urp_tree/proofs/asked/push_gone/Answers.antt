@@ -1,7 +1,7 @@
-use Rattle.std.proofs.Common.{◌≡◌, List, [], ◌++◌, Option, Some, refl, sym, ap, ◌∙◌, append-nil}
+use Rattle.std.proofs.Common.{List, ◌++◌, Option, refl, sym, ap, ◌∙◌, append-nil}
 use Rattle.repl_data.specs.declared.csn.Uid.{Uid}
 use Rattle.urp_tree.specs.declared.row.Row.{Row}
-use Rattle.urp_tree.specs.Rows.{row_at, taken, fact_of, facts_in}
+use Rattle.urp_tree.specs.Rows.{taken, fact_of, facts_in}
 use Rattle.urp_tree.specs.Seen.{gone_ids}
 use Rattle.urp_tree.proofs.Gone.{gone_one, gone_not}
 use Rattle.urp_tree.proofs.asked.push_gone.Goals as goal

@@ -1,5 +1,3 @@
-use Rattle.std.proofs.Common.{◌≡◌, None, Some, Option, sym, ap, ◌∙◌}
-use Rattle.std.specs.Option.{option_copied}
 use Rattle.urp_tree.specs.Rows.{facts_in}
 use Rattle.urp_tree.proofs.Lost.{standing_kept, standing_none}
 use Rattle.urp_tree.proofs.asked.standing.Goals as goal

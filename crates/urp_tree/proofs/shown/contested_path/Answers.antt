@@ -1,4 +1,4 @@
-use Rattle.std.proofs.Common.{◌≡◌, List, [], ◌∷◌, ◌++◌, sym, ap, ◌∙◌}
+use Rattle.std.proofs.Common.{[], ◌∷◌, ◌++◌, ap, ◌∙◌}
 use Rattle.repl_data.specs.Presence.{present_of, is_among_entries}
 use Rattle.repl_data.specs.View.{view_of_facts, path_of}
 use Rattle.urp_tree.specs.Rows.{facts_in}

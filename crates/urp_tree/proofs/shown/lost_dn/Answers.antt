@@ -1,4 +1,4 @@
-use Rattle.std.proofs.Common.{◌≡◌, List, Some, sym, ap, ◌∙◌}
+use Rattle.std.proofs.Common.{Some, ap, ◌∙◌}
 use Rattle.repl_data.specs.Presence.{present_of}
 use Rattle.repl_data.specs.View.{view_of_facts}
 use Rattle.urp_tree.specs.Rows.{facts_in}

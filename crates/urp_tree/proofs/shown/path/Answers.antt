@@ -1,4 +1,4 @@
-use Rattle.std.proofs.Common.{◌≡◌, List, [], ◌∷◌, ◌++◌, refl, sym, ap, ◌∙◌, append-nil}
+use Rattle.std.proofs.Common.{List, [], ◌++◌, refl, sym, ap, ◌∙◌, append-nil}
 use Rattle.repl_data.specs.declared.change.Rdn.{Rdn}
 use Rattle.repl_data.specs.View.{view_of_facts, path_of}
 use Rattle.urp_tree.specs.Rows.{facts_in}

@@ -1,5 +1,4 @@
-use Rattle.std.proofs.Common.{◌≡◌, List, sym, ap, ◌∙◌}
-use Rattle.repl_data.specs.declared.csn.Uid.{Uid}
+use Rattle.std.proofs.Common.{ap, ◌∙◌}
 use Rattle.repl_data.specs.Facts.{attrs_shown}
 use Rattle.repl_data.specs.Presence.{present_of, is_among_entries}
 use Rattle.repl_data.specs.View.{DirectoryView, view_of_facts, dn_of, shown_present}

@@ -1,4 +1,4 @@
-use Rattle.std.proofs.Common.{◌≡◌, sym, ap, ◌∙◌}
+use Rattle.std.proofs.Common.{ap, ◌∙◌}
 use Rattle.repl_data.specs.Facts.{EntryFacts}
 use Rattle.repl_data.specs.Presence.{present_of}
 use Rattle.repl_data.specs.Names.{with_id}

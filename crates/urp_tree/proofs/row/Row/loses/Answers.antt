@@ -1,5 +1,4 @@
-use Rattle.std.proofs.Common.{◌≡◌, List, Option, sym, ap, ◌∙◌}
-use Rattle.std.specs.Option.{option_copied}
+use Rattle.std.proofs.Common.{Option, ap, ◌∙◌}
 use Rattle.std.specs.List.{list_any}
 use Rattle.urp_names.specs.declared.contenders.Contender.{Contender}
 use Rattle.urp_names.specs.Contending.{Contending, comes_before}

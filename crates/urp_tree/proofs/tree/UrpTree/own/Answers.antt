@@ -1,8 +1,6 @@
 use Rattle.std.proofs.Common.{ap, ◌∙◌}
-use Rattle.repl_data.specs.View.{name_of, parent_of}
-use Rattle.repl_data.specs.Lent.{own_of, standing_of}
+use Rattle.repl_data.specs.Lent.{own_of}
 use Rattle.urp_tree.specs.Known.{Known, known_view}
-use Rattle.urp_tree.proofs.Plans.{idle}
 use Rattle.urp_tree.proofs.tree.UrpTree.own.Goals as goal
 
 pub returns : goal.returns
