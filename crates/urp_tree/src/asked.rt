@@ -1,10 +1,10 @@
 //! What is asked of one entry: look-ups in the rows.
-ghost use Rattle.std.specs.Prelude.{◌≡◌, ◌++◌, List, ℕ, true, not, Some, None, IfSome, IfOk, OnOk, []};
+ghost use Rattle.std.specs.Prelude.{◌≡◌, ◌++◌, List, ℕ, true, false, not, Some, None, IfSome, IfOk, OnOk, []};
 ghost use Rattle.std.specs.BTreeMap.{get};
 ghost use Rattle.std.specs.Option.{option_copied};
 ghost use Rattle.repl_data.specs.Presence.{present_of, is_among_entries};
-ghost use Rattle.repl_data.specs.Names.{has_name};
-ghost use Rattle.repl_data.specs.View.{view_of_facts, name_of, parent_of, tombstones_of};
+ghost use Rattle.repl_data.specs.Names.{has_id, has_name};
+ghost use Rattle.repl_data.specs.View.{view_of_facts, child_of, name_of, parent_of, tombstones_of};
 ghost use Rattle.repl_data.specs.Lent.{own_of, standing_of};
 ghost use Rattle.repl_data.specs.Order.{uid_cmp, uid_eq, suffix_id};
 ghost use Rattle.urp_tree.specs.Rows.{row_at, fact_of, facts_in};
@@ -62,6 +62,18 @@ pub(crate) fn lost(rows: &Rows, entry: &StampedEntry) -> bool
     match row_of(rows, entry.parent) {
         Some(row) => row.loses(&entry.rdn, !entry.is_live(), entry.named),
         None => false,
+    }
+}
+
+/// The child that has a name without a part for the id. Two look-ups.
+pub(crate) fn holder(rows: &Rows, parent: Uid, rdn: &Rdn) -> Option<Uid>
+    requires { IsTree rows.now None [] }
+    ensures { (suffix : List ℕ) → has_id rdn.now ≡ false → result ≡ child_of (view_of_facts suffix (facts_in rows.now.entries)) parent rdn.now }
+{
+    let _seats = seat_count(rows);
+    match row_of(rows, parent) {
+        Some(row) => row.holder(rdn),
+        None => None,
     }
 }
 

@@ -76,12 +76,7 @@ fn path(rows: &Rows, alloc: Global, id: Uid) -> Result<Items<Rdn>, NoMemory>
 }
 
 /// The printed name of a present entry, below the printed name of the suffix.
-fn dn(
-    rows: &Rows,
-    suffix: &[u8],
-    alloc: Global,
-    id: Uid,
-) -> Result<Bytes, NoMemory>
+fn dn(rows: &Rows, suffix: &[u8], alloc: Global, id: Uid) -> Result<Bytes, NoMemory>
     requires tree { IsTree rows.now None [] }
     requires there { is_among_entries (present_of (facts_in rows.now.entries)) id ≡ true }
     ensures { IfOk result (λ dn. dn ≡ dn_of (view_of_facts suffix.now (facts_in rows.now.entries)) id) }
@@ -134,11 +129,7 @@ fn own_name(entry: &StampedEntry) -> Result<Rdn, NoMemory>
 }
 
 /// The relative name that an entry contends for, and then its parent's shown ones.
-fn contested_path(
-    rows: &Rows,
-    alloc: Global,
-    entry: &StampedEntry,
-) -> Result<Items<Rdn>, NoMemory>
+fn contested_path(rows: &Rows, alloc: Global, entry: &StampedEntry) -> Result<Items<Rdn>, NoMemory>
     requires tree { IsTree rows.now None [] }
     requires parent { is_among_entries (present_of (facts_in rows.now.entries)) entry.now.parent ≡ true }
     ensures { IfOk result (λ names. (suffix : List ℕ) → names ≡ entry.now.rdn ∷ path_of (view_of_facts suffix (facts_in rows.now.entries)) entry.now.parent) }
