@@ -9,7 +9,7 @@ use Rattle.urp_tree.specs.declared.row.Row.{Row}
 use Rattle.urp_tree.specs.declared.step.Step.{Step}
 use Rattle.urp_tree.specs.Rows.{facts_in}
 use Rattle.urp_tree.specs.Walk.{children_in, children_of_facts, stepped}
-use Rattle.urp_tree.specs.Known.{Known, put_fact, IsTree, IsReadyFor, IsLiveRoot, HasSeat}
+use Rattle.urp_tree.specs.Known.{Known, put_fact, IsTree, IsReadyFor, IsLiveRoot, IsPlain, HasSeat}
 use Rattle.urp_tree.specs.Climb.{AreTrue, IsWay, RoomFor}
 use Rattle.urp_tree.proofs.Settled.{rising_children}
 use Rattle.urp_tree.proofs.CanWalk.{can_walk}
@@ -22,6 +22,7 @@ idle rows target steps tree = record {
   below = tree.below;
   rooted = tree.rooted;
   roots = tree.roots;
+  plain = tree.plain;
   indexed = tree.indexed;
   seat = tt;
   can = tt;
@@ -39,6 +40,7 @@ planned_tree rows fs e ss target tree same small way seat rooms = record {
   below = tree.below;
   rooted = tree.rooted;
   roots = tree.roots;
+  plain = tree.plain;
   indexed = tree.indexed;
   seat = seat;
   can =
@@ -47,11 +49,12 @@ planned_tree rows fs e ss target tree same small way seat rooms = record {
 }
 
 pub planned_ready : (k : Known) (fs : List EntryFacts) (e : EntryFacts) (ss : List Step) → k.facts ≡ fs → k.target ≡ Some e.id → k.steps ≡ ss
-    → IsWay (suc (length fs)) fs e ss → HasParentBelow e → is_among_entries fs e.parent ≡ true → IsLiveRoot e → IsReadyFor k e
-planned_ready k fs e ss same target steps way below rooted root = record {
+    → IsWay (suc (length fs)) fs e ss → HasParentBelow e → is_among_entries fs e.parent ≡ true → IsLiveRoot e → IsPlain e → IsReadyFor k e
+planned_ready k fs e ss same target steps way below rooted root plain = record {
   target = target;
   leads = (λ i. stepped (steps i) (children_of_facts (same i))) ∙ way.leads ∙ ap (λ es. children_of_facts (put_fact e es)) (sym same);
   below = below;
   rooted = ap (λ es. is_among_entries es e.parent) same ∙ rooted;
   root = root;
+  plain = plain;
 }

@@ -4,3 +4,4 @@ pub mod Walk
 pub mod Planned
 pub mod Known
 pub mod Climb
+pub mod Seen

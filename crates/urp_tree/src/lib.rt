@@ -1,12 +1,14 @@
 //! The view of a replica, kept as a tree of its entries.
 #![tactic(auto)]
 
+mod asked;
 mod child;
 mod laws;
 mod plan;
 mod room;
 mod row;
 mod seat;
+mod shown;
 mod step;
 mod tree;
 mod way;

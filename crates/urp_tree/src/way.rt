@@ -135,7 +135,7 @@ fn coming(rows: &Rows, alloc: Global, new: &StampedEntry) -> Result<StepList, No
 }
 
 /// It is live or has present children.
-fn shows(entry: &StampedEntry, children: usize) -> bool
+pub(crate) fn shows(entry: &StampedEntry, children: usize) -> bool
     ensures yes { result ≡ true → Shows entry.now children }
     ensures no { result ≡ false → Hides entry.now children }
 {

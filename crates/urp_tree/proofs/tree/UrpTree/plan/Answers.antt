@@ -10,6 +10,7 @@ use Rattle.urp_tree.specs.Known.{Known, IsTree, IsReadyFor}
 use Rattle.urp_tree.specs.Climb.{RoomFor}
 use Rattle.urp_tree.proofs.Plans.{idle, small_enough, planned_tree, planned_ready}
 use Rattle.urp_tree.proofs.Fits.{own_below, own_rooted, own_root}
+use Rattle.urp_tree.proofs.Plain.{own_plain}
 use Rattle.urp_tree.proofs.tree.UrpTree.plan.Goals as goal
 
 pub forget-requires : goal.forget-requires
@@ -37,4 +38,5 @@ returns-clause-ready c =
     (planned_ready k fs e c.in_ok-steps.steps c.prepare.ensures.facts (ap Some c.entry_id-target.ensures) refl c.in_ok-steps.ensures
     (own_below c.forget.new.rows tree c.seat_count-seats.ensures.ordered c.args.change.now c.requires.sound known fresh e c.in_ok-row.ensures.facts)
     (own_rooted c.forget.new.rows tree c.seat_count-seats.ensures.ordered c.args.change.now c.requires.sound known fresh e c.in_ok-row.ensures.facts)
-    (own_root c.forget.new.rows tree c.seat_count-seats.ensures.ordered c.args.change.now c.requires.sound known fresh e c.in_ok-row.ensures.facts))
+    (own_root c.forget.new.rows tree c.seat_count-seats.ensures.ordered c.args.change.now c.requires.sound known fresh e c.in_ok-row.ensures.facts)
+    (own_plain c.forget.new.rows tree c.seat_count-seats.ensures.ordered c.args.change.now c.requires.sound known fresh e c.in_ok-row.ensures.facts))
