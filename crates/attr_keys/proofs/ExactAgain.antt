@@ -13,7 +13,8 @@ use Rattle.ucd_normal.specs.declared.forms.Form.TheVariants.{Nfkc}
 use Rattle.repl_data.specs.Key.{squeezed, trimmed}
 use Rattle.attr_keys.specs.declared.kind.Kind.TheVariants.{Exact}
 use Rattle.attr_keys.specs.Value.{utf8_fault, bad_unless, has_text, bad_text, bad_value, composed, prepared, value_key}
-use Rattle.attr_keys.proofs.TextsAgain.{and-left, and-right, drop_last, last-dropped, trimmed-again, all-squeezed, all-dropped}
+use Rattle.repl_data.proofs.Bools.{and-left, and-right}
+use Rattle.attr_keys.proofs.TextsAgain.{drop_last, last-dropped, trimmed-again, all-squeezed, all-dropped}
 use Rattle.attr_keys.proofs.ScalarStays.{all-nfkc, scalars-from_all}
 use Rattle.attr_keys.proofs.SpaceStays.{IsComposed, parted, squeezed-again}
 

@@ -11,6 +11,7 @@ use Rattle.attr_keys.specs.declared.name.NameState.{NameState}
 use Rattle.attr_keys.specs.declared.name.NameState.TheVariants.{Start, Word, NewOption, Arc, Zero, Digits}
 use Rattle.attr_keys.specs.Name.{is_digit, is_letter, is_key_char, next_state, may_end, bad_from, bad_name, base_len, base_of, options_of}
 use Rattle.attr_keys.specs.Table.{AttrType, types, type_of, is_named, key_of}
+use Rattle.repl_data.proofs.Bools.{and-left, and-right}
 use Rattle.attr_keys.proofs.NamesAgain.{found-passes}
 
 -- ---- in lower case
@@ -98,14 +99,6 @@ stays_word (c ∷ cs) = is_key_char c && stays_word cs
 abbrev is_word : List ℕ → Bool
 is_word [] = false
 is_word (c ∷ cs) = is_letter c && stays_word cs
-
-and-left : (a b : Bool) → (a && b) ≡ true → a ≡ true
-and-left true b h = refl
-and-left false b h = h
-
-and-right : (a b : Bool) → (a && b) ≡ true → b ≡ true
-and-right true b h = h
-and-right false b h = cc
 
 after-stay : (at : ℕ) (cs rest : List ℕ) → stays_word cs ≡ true → bad_from Word at (cs ++ rest) ≡ bad_from Word (at + length cs) rest
 after-stay at [] rest h = ap (λ (n : ℕ). bad_from Word n rest) (sym (add-zero at))

@@ -4,10 +4,12 @@ use Rattle.std.proofs.lemmas.Bool.Decides.{nat_tests}
 use Rattle.std.proofs.lemmas.List.Sums.{prefix_len-le-length}
 use Rattle.std.specs.Char.{to_ascii_lowercase}
 use Rattle.std.specs.Cmp.Lexicographic.{bytes_decides}
-use Rattle.std.specs.List.{list_all, prefix_len}
+use Rattle.std.specs.List.{AllByRecursion, before_first, list_all, prefix_len}
 use Rattle.std.specs.Option.{option_map_or}
 use Rattle.attr_keys.specs.Name.{base_len, base_of, options_of}
-use Rattle.attr_keys.specs.Table.{AttrType, types, type_of, first_name, is_named, key_of}
+use Rattle.attr_keys.specs.Table.{AttrType, types, type_of, first_name, is_named, key_of, is_single}
+use Rattle.repl_data.specs.Types.{is_among, single_valued}
+use Rattle.repl_data.proofs.Bools.{and-left, and-right, and-both}
 
 lower-again : (b : ℕ) → to_ascii_lowercase (to_ascii_lowercase b) ≡ to_ascii_lowercase b
 lower-again b = grind (arith, nat_tests)
@@ -58,18 +60,6 @@ rest-begins (c ∷ cs) = subst (λ (n : ℕ). Begins (map to_ascii_lowercase (dr
 
 lower-goes_on : (c : ℕ) → goes_on c ≡ true → goes_on (to_ascii_lowercase c) ≡ true
 lower-goes_on c h = grind (arith, nat_tests)
-
-and-left : (a b : Bool) → (a && b) ≡ true → a ≡ true
-and-left true b h = refl
-and-left false b h = h
-
-and-right : (a b : Bool) → (a && b) ≡ true → b ≡ true
-and-right true b h = h
-and-right false b h = cc
-
-and-both : (a b : Bool) → a ≡ true → b ≡ true → (a && b) ≡ true
-and-both true b e h = h
-and-both false b e h = e
 
 all_lower-goes_on : (bs : List ℕ) → list_all goes_on bs ≡ true → list_all goes_on (map to_ascii_lowercase bs) ≡ true
 all_lower-goes_on [] h = refl
@@ -150,3 +140,24 @@ key_of-again name =
     (first-settled (map to_ascii_lowercase (base_of name)) _ refl (all_lower-goes_on (base_of name) whole) (all_lower-again (base_of name)))
     begins
     (all_lower-again (options_of name))
+
+-- ---- single-valued types
+
+-- before the options of a key stands the first name of its type
+key-base : (name : List ℕ) → before_first (λ b. b == 59) (key_of name) ≡ first_name (map to_ascii_lowercase (base_of name))
+unfolding key_of
+key-base name =
+    let same : base_len name ≡ prefix_len goes_on name = base_len-prefix name in
+    let whole : list_all goes_on (base_of name) ≡ true = subst (λ (k : ℕ). list_all goes_on (take k name) ≡ true) (sym same) (front-goes_on name) in
+    let begins : Begins (map to_ascii_lowercase (options_of name)) = subst (λ (k : ℕ). Begins (map to_ascii_lowercase (drop k name))) (sym same) (rest-begins name) in
+    let settled : IsSettled (first_name (map to_ascii_lowercase (base_of name))) = first-settled (map to_ascii_lowercase (base_of name)) _ refl (all_lower-goes_on (base_of name) whole) (all_lower-again (base_of name)) in
+    let first : List ℕ = first_name (map to_ascii_lowercase (base_of name)) in
+    let rest : List ℕ = map to_ascii_lowercase (options_of name) in
+    ap (λ (n : ℕ). take n (first ++ rest)) (prefix-whole first rest settled.whole begins) ∙ take-whole first rest
+
+pub single-key : (name : List ℕ) → is_single (key_of name) ≡ is_among single_valued (first_name (map to_ascii_lowercase (base_of name)))
+single-key name = ap (is_among single_valued) (key-base name)
+
+pub single-keys : AllByRecursion (λ name. key_of name ≡ name) single_valued
+unfolding key_of types type_of
+single-keys = (refl, (refl, (refl, (refl, (refl, (refl, (refl, (refl, (refl, (refl, tt))))))))))

@@ -10,6 +10,7 @@ use Rattle.repl_data.specs.Key.{folded, squeezed, without_last_space, trimmed}
 use Rattle.attr_keys.specs.Value.{bad_value, first_or, prepared, value_key}
 use Rattle.repl_data.proofs.TextKeys.{folded-ascii}
 use Rattle.attr_keys.proofs.Texts.{ascii-from_none}
+use Rattle.repl_data.proofs.Bools.{and-left, and-right}
 
 -- ---- no space at the front, and no two together
 
@@ -27,14 +28,6 @@ drop_last (b ∷ c ∷ bs) = b ∷ drop_last (c ∷ bs)
 cases : {P : Type 0} (b : Bool) → (b ≡ true → P) → (b ≡ false → P) → P
 cases true f g = f refl
 cases false f g = g refl
-
-pub and-left : (a b : Bool) → (a && b) ≡ true → a ≡ true
-and-left true b h = refl
-and-left false b h = h
-
-pub and-right : (a b : Bool) → (a && b) ≡ true → b ≡ true
-and-right true b h = h
-and-right false b h = cc
 
 not-true : (b : Bool) → not b ≡ true → b ≡ false
 not-true true h = cc

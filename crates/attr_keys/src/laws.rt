@@ -1,10 +1,13 @@
 //! What keys are to one another.
 
-ghost use Rattle.std.specs.Prelude.{◌≡◌, ℕ, List, None};
+ghost use Rattle.std.specs.Prelude.{◌≡◌, ℕ, List, None, map};
+ghost use Rattle.std.specs.List.{AllByRecursion};
+ghost use Rattle.std.specs.Char.{to_ascii_lowercase};
 ghost use Rattle.attr_keys.specs.declared.kind.Kind.{Kind};
-ghost use Rattle.attr_keys.specs.Name.{bad_name};
-ghost use Rattle.attr_keys.specs.Table.{key_of};
+ghost use Rattle.attr_keys.specs.Name.{bad_name, base_of};
+ghost use Rattle.attr_keys.specs.Table.{key_of, first_name, is_single};
 ghost use Rattle.repl_data.specs.Key.{text_key};
+ghost use Rattle.repl_data.specs.Types.{is_among, single_valued};
 ghost use Rattle.attr_keys.specs.Value.{bad_value, value_key};
 ghost use Rattle.attr_keys.specs.Laws.{AreEqualNames, AreEqualValues};
 
@@ -16,6 +19,13 @@ ghost use Rattle.attr_keys.specs.Laws.{AreEqualNames, AreEqualValues};
 /// key, which is no value.
 pub fn key_laws()
     ensures name_again { (name : List ℕ) → key_of (key_of name) ≡ key_of name }
+
+    // Whether a key's type is single-valued is what the name says, however it is spelled and whatever its
+    // options: the first name of its type stands among the single-valued ones, or does not.
+    ensures single { (name : List ℕ) → is_single (key_of name) ≡ is_among single_valued (first_name (map to_ascii_lowercase (base_of name))) }
+
+    // And each of these is a key.
+    ensures single_names { AllByRecursion (λ name. key_of name ≡ name) single_valued }
 
     // The key of an attribute name is an attribute name.
     ensures name_key { (name : List ℕ) → bad_name name ≡ None → bad_name (key_of name) ≡ None }

@@ -15,6 +15,6 @@ pub use fault::KeyFault;
 pub use kind::Kind;
 pub use laws::key_laws;
 pub use name::attr_key;
-pub use repl_data::{AttrKey, Bytes, NoMemory};
-pub use table::{is_single, kind_of};
+pub use repl_data::{AttrKey, Bytes, NoMemory, is_single};
+pub use table::kind_of;
 pub use value::{compare_keys, piece_key, value_key};

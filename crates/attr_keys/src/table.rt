@@ -1,8 +1,8 @@
-//! The table of 40 types: kind, other name, single-valued or not.
+//! The table of 40 types: their names, and the kind of their values.
 
 ghost use Rattle.std.specs.Prelude.{◌≡◌, find};
 ghost use Rattle.std.specs.Option.{option_copied, option_map};
-ghost use Rattle.attr_keys.specs.Table.{is_named, type_of, first_name, kind_of, is_single};
+ghost use Rattle.attr_keys.specs.Table.{is_named, type_of, first_name, kind_of};
 ghost use Rattle.attr_keys.specs.Table.{seen};
 
 use crate::kind::Kind;
@@ -18,8 +18,6 @@ pub(crate) struct TypeRow {
     pub(crate) other: &'static [u8],
     /// The kind of its values.
     pub(crate) kind: Kind,
-    /// It has at most one value in an entry.
-    pub(crate) single: bool,
 }
 
 pub(crate) static TYPES: [TypeRow; 40] = [
@@ -27,241 +25,201 @@ pub(crate) static TYPES: [TypeRow; 40] = [
         name: b"objectclass",
         other: b"objectclass",
         kind: Kind::Dir,
-        single: false,
     },
     TypeRow {
         name: b"cn",
         other: b"commonname",
         kind: Kind::Dir,
-        single: false,
     },
     TypeRow {
         name: b"sn",
         other: b"surname",
         kind: Kind::Dir,
-        single: false,
     },
     TypeRow {
         name: b"givenname",
         other: b"givenname",
         kind: Kind::Dir,
-        single: false,
     },
     TypeRow {
         name: b"initials",
         other: b"initials",
         kind: Kind::Dir,
-        single: false,
     },
     TypeRow {
         name: b"title",
         other: b"title",
         kind: Kind::Dir,
-        single: false,
     },
     TypeRow {
         name: b"description",
         other: b"description",
         kind: Kind::Dir,
-        single: false,
     },
     TypeRow {
         name: b"o",
         other: b"organizationname",
         kind: Kind::Dir,
-        single: false,
     },
     TypeRow {
         name: b"ou",
         other: b"organizationalunitname",
         kind: Kind::Dir,
-        single: false,
     },
     TypeRow {
         name: b"l",
         other: b"localityname",
         kind: Kind::Dir,
-        single: false,
     },
     TypeRow {
         name: b"st",
         other: b"stateorprovincename",
         kind: Kind::Dir,
-        single: false,
     },
     TypeRow {
         name: b"street",
         other: b"streetaddress",
         kind: Kind::Dir,
-        single: false,
     },
     TypeRow {
         name: b"c",
         other: b"countryname",
         kind: Kind::Dir,
-        single: true,
     },
     TypeRow {
         name: b"postalcode",
         other: b"postalcode",
         kind: Kind::Dir,
-        single: false,
     },
     TypeRow {
         name: b"postofficebox",
         other: b"postofficebox",
         kind: Kind::Dir,
-        single: false,
     },
     TypeRow {
         name: b"uid",
         other: b"userid",
         kind: Kind::Dir,
-        single: false,
     },
     TypeRow {
         name: b"displayname",
         other: b"displayname",
         kind: Kind::Dir,
-        single: true,
     },
     TypeRow {
         name: b"employeenumber",
         other: b"employeenumber",
         kind: Kind::Dir,
-        single: true,
     },
     TypeRow {
         name: b"employeetype",
         other: b"employeetype",
         kind: Kind::Dir,
-        single: false,
     },
     TypeRow {
         name: b"departmentnumber",
         other: b"departmentnumber",
         kind: Kind::Dir,
-        single: false,
     },
     TypeRow {
         name: b"businesscategory",
         other: b"businesscategory",
         kind: Kind::Dir,
-        single: false,
     },
     TypeRow {
         name: b"preferredlanguage",
         other: b"preferredlanguage",
         kind: Kind::Dir,
-        single: true,
     },
     TypeRow {
         name: b"member",
         other: b"member",
         kind: Kind::Dir,
-        single: false,
     },
     TypeRow {
         name: b"uniquemember",
         other: b"uniquemember",
         kind: Kind::Dir,
-        single: false,
     },
     TypeRow {
         name: b"owner",
         other: b"owner",
         kind: Kind::Dir,
-        single: false,
     },
     TypeRow {
         name: b"manager",
         other: b"manager",
         kind: Kind::Dir,
-        single: false,
     },
     TypeRow {
         name: b"seealso",
         other: b"seealso",
         kind: Kind::Dir,
-        single: false,
     },
     TypeRow {
         name: b"labeleduri",
         other: b"labeleduri",
         kind: Kind::Exact,
-        single: false,
     },
     TypeRow {
         name: b"homedirectory",
         other: b"homedirectory",
         kind: Kind::Exact,
-        single: true,
     },
     TypeRow {
         name: b"loginshell",
         other: b"loginshell",
         kind: Kind::Exact,
-        single: true,
     },
     TypeRow {
         name: b"dc",
         other: b"domaincomponent",
         kind: Kind::Ia5,
-        single: true,
     },
     TypeRow {
         name: b"mail",
         other: b"rfc822mailbox",
         kind: Kind::Ia5,
-        single: false,
     },
     TypeRow {
         name: b"memberuid",
         other: b"memberuid",
         kind: Kind::Ia5,
-        single: false,
     },
     TypeRow {
         name: b"gecos",
         other: b"gecos",
         kind: Kind::Ia5,
-        single: true,
     },
     TypeRow {
         name: b"uidnumber",
         other: b"uidnumber",
         kind: Kind::Int,
-        single: true,
     },
     TypeRow {
         name: b"gidnumber",
         other: b"gidnumber",
         kind: Kind::Int,
-        single: true,
     },
     TypeRow {
         name: b"telephonenumber",
         other: b"telephonenumber",
         kind: Kind::Tel,
-        single: false,
     },
     TypeRow {
         name: b"mobile",
         other: b"mobile",
         kind: Kind::Tel,
-        single: false,
     },
     TypeRow {
         name: b"userpassword",
         other: b"userpassword",
         kind: Kind::Oct,
-        single: false,
     },
     TypeRow {
         name: b"jpegphoto",
         other: b"jpegphoto",
         kind: Kind::Oct,
-        single: false,
     },
 ];
 
@@ -298,18 +256,5 @@ pub fn kind_of(attr: &AttrKey) -> Kind
     match row_of(&name[..base_len(name)]) {
         Some(row) => row.kind,
         None => Kind::Dir,
-    }
-}
-
-/// Whether an entry has at most one value of the attribute (RFC 4512, section 4.1.2: SINGLE-VALUE),
-/// which its name without the options decides. A type that is not known is multi-valued.
-#[tactic(auto, unfolding(crate::specs::Table::is_single))]
-pub fn is_single(attr: &AttrKey) -> bool
-    ensures { result ≡ is_single attr.now.name }
-{
-    let name = attr.name.as_slice();
-    match row_of(&name[..base_len(name)]) {
-        Some(row) => row.single,
-        None => false,
     }
 }

@@ -1,5 +1,6 @@
 -- The changes that a node has taken, in order of arrival.
-use Rattle.std.specs.Prelude.{ℕ, Bool, ◌==◌, ◌&&◌, List, filter, map}
+use Rattle.std.specs.Prelude.{◌≡◌, ℕ, Bool, true, false, ◌==◌, ◌&&◌, List, Contains, filter, map}
+use Rattle.std.specs.List.{All}
 use Rattle.repl_data.specs.declared.csn.Csn.{Csn}
 use Rattle.repl_data.specs.declared.change.Change.{Change}
 use Rattle.repl_data.specs.Order.{csn_lt, csn_le}
@@ -25,3 +26,13 @@ prev_in changes csn = greatest (filter (is_before csn) (csns_of changes))
 -- a CSN that lies beyond the one vector and within the other
 abbrev pub is_between : List Csn → List Csn → Csn → Bool
 is_between beyond limit csn = csn_lt (entry_of beyond csn.rid) csn && csn_le csn (entry_of limit csn.rid)
+
+-- no change lies between the two
+abbrev pub HasNoNext : List Change → List Csn → List Csn → Type 0
+HasNoNext changes beyond limit = All (λ (c : Change). is_between beyond limit c.csn ≡ false) changes
+
+-- the change of least CSN that lies between them
+pub record IsNext (changes : List Change) (beyond limit : List Csn) (c : Change) : Type 0 where
+  pub stands : Contains changes c
+  pub between : is_between beyond limit c.csn ≡ true
+  pub least : All (λ (d : Change). is_between beyond limit d.csn ≡ true → csn_le c.csn d.csn ≡ true) changes

@@ -1,11 +1,9 @@
 //! The changelog: appends, the change before, the next one beyond a vector.
 
 ghost use Rattle.std.specs.Prelude.{◌≡◌, ℕ, ◌+◌, ◌-◌, ◌<◌, ◌≤◌, ◌↔◌, ◌++◌, ◌∷◌, [], List, true, false, length, slice_index_or, slice_get, max, Contains, IsTrue, IfOk, OnOk, OnErr, MatchOption, vec_len, vec_capacity};
-ghost use Rattle.std.specs.List.{All};
 ghost use Rattle.std.specs.Option.{option_copied};
 ghost use Rattle.repl_data.specs.declared.csn.Csn.{Csn};
-ghost use Rattle.repl_data.specs.Order.{csn_le};
-ghost use Rattle.change_log.specs.Log.{Log, csns_of, prev_in, is_between};
+ghost use Rattle.change_log.specs.Log.{Log, csns_of, prev_in, HasNoNext, IsNext};
 ghost use Rattle.change_log.specs.Index.{IsIndex};
 
 use crate::index::{self, Place, first_between, place_of};
@@ -109,7 +107,7 @@ impl ChangeLog {
     pub fn append(&mut self, change: Change)
         requires spare { 0 < self.old.spare }
         requires fresh { Contains (csns_of self.old.changes) change.csn → ⊥ }
-        ensures { self.new ≡ record { changes = self.old.changes ++ change ∷ []; spare = self.old.spare - 1 } }
+        ensures appended { self.new ≡ record { changes = self.old.changes ++ change ∷ []; spare = self.old.spare - 1 } }
     {
         let place = Place {
             csn: change.csn,
@@ -124,7 +122,7 @@ impl ChangeLog {
     /// The greatest CSN of the same originator below this one in the log, and zero where there is
     /// none. A search by halves.
     pub fn prev(&self, csn: Csn) -> Csn
-        ensures { result ≡ prev_in self.now.changes csn }
+        ensures greatest_below { result ≡ prev_in self.now.changes csn }
     {
         index::prev_in(self.index.as_slice(), csn)
     }
@@ -132,7 +130,7 @@ impl ChangeLog {
     /// The change of least CSN beyond the one vector and within the other. One search by halves
     /// for each entry of `limit`.
     pub fn next_beyond(&self, beyond: &Vector, limit: &Vector) -> Option<&Change>
-        ensures { MatchOption result (All (λ c. is_between beyond.now limit.now c.csn ≡ false) self.now.changes) (λ c. Contains self.now.changes c.now × (is_between beyond.now limit.now c.now.csn ≡ true) × All (λ d. is_between beyond.now limit.now d.csn ≡ true → csn_le c.now.csn d.csn ≡ true) self.now.changes) }
+        ensures next { MatchOption result (HasNoNext self.now.changes beyond.now limit.now) (λ c. IsNext self.now.changes beyond.now limit.now c.now) }
     {
         let Some(place) = first_between(self.index.as_slice(), beyond, limit) else {
             return None;

@@ -9,20 +9,10 @@ use Rattle.repl_data.specs.declared.change.Rdn.{Rdn}
 use Rattle.repl_data.specs.Order.{rdn_key}
 use Rattle.dn_text.specs.declared.name.Dn.{Dn}
 use Rattle.dn_text.specs.Below.{StandsAbove, keys_of, is_same_part, are_same_parts, are_same_rdns}
+use Rattle.repl_data.proofs.Bools.{and-left, and-right, and-both}
 
 abbrev part_key : Ava → List ℕ × List ℕ
 part_key a = (a.attr.name, a.val.key)
-
-and-left : (a b : Bool) → (a && b) ≡ true → a ≡ true
-and-left true b h = refl
-and-left false b h = h
-
-and-right : (a b : Bool) → (a && b) ≡ true → b ≡ true
-and-right true b h = h
-and-right false b h = cc
-
-and-both : (a b : Bool) → a ≡ true → b ≡ true → (a && b) ≡ true
-and-both a b h k = ap₂ ◌&&◌ h k
 
 part-same : (a b : Ava) → is_same_part a b ≡ true → part_key a ≡ part_key b
 part-same a b h =

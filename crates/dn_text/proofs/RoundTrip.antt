@@ -17,7 +17,8 @@ use Rattle.dn_text.specs.Laws.{IsReadablePart, AreReadableParts, AreReadable, Is
 use Rattle.dn_text.proofs.Pieces.{span, bare_len-first, pieces-cut, pieces-whole}
 use Rattle.dn_text.proofs.Prints.{joined-cons}
 use Rattle.dn_text.proofs.Rising.{AreApart, put-last, none-same, apart-push, apart-none, put-rising, rising-from_readable}
-use Rattle.dn_text.proofs.Spelled.{and-left, and-right, name-char-not, texts_of, name-read}
+use Rattle.repl_data.proofs.Bools.{and-left, and-right}
+use Rattle.dn_text.proofs.Spelled.{name-char-not, texts_of, name-read}
 use Rattle.dn_text.proofs.Printed.{IsUncut, uncut-nil, uncut-cons, uncut-append, value-spelled, value-uncut}
 
 -- ---- one part

@@ -23,6 +23,7 @@ use Rattle.dn_text.specs.Escape.{is_special, is_refused, hex_digit, pair_value, 
 use Rattle.dn_text.specs.Reading.{attr_in, begins_hash, keyed, named, value_in, has_attr, beside, part_in, put_part, parts_in, rdn_in, rdns_in, dn_in}
 use Rattle.dn_text.specs.Spelling.{spaces, SpellsBytes, no_more, plain, escaped, digits, SpellsValue, SpellsPart, SpellsParts, no_part, one_more, cut_at, SpellsRdn, SpellsRdns, SpellsName}
 use Rattle.dn_text.proofs.Pieces.{span, bare_len-first, bare_len-later}
+use Rattle.repl_data.proofs.Bools.{and-left, and-right}
 
 pub pick-true : {A : Type 0} (b : Bool) (x y : A) → b ≡ true → cond b x y ≡ x
 pick-true b x y h = ap (λ (v : Bool). cond v x y) h
@@ -226,14 +227,6 @@ name-char-not k c none h = test (eqb c k) refl
     test : (b : Bool) → eqb c k ≡ b → eqb c k ≡ false
     test true e = let same : c ≡ k = same-number c k e in absurd (false≢true (sym none ∙ ap is_name_char (sym same) ∙ h))
     test false e = e
-
-pub and-left : (a b : Bool) → (a && b) ≡ true → a ≡ true
-and-left true b h = refl
-and-left false b h = h
-
-pub and-right : (a b : Bool) → (a && b) ≡ true → b ≡ true
-and-right true b h = h
-and-right false b h = cc
 
 name-closed : (name : List ℕ) → list_all is_name_char name ≡ true → IsClosed name
 name-closed [] h = closed-nil

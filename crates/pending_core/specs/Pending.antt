@@ -4,6 +4,10 @@ use Rattle.std.specs.List.{All, list_all}
 use Rattle.repl_data.specs.declared.csn.Csn.{Csn}
 use Rattle.repl_data.specs.Order.{csn_lt, csn_le, csn_eq, zero_csn}
 
+-- how many CSNs can be pending at a time
+abbrev pub places : ℕ
+places = 1024
+
 -- each CSN is below those behind it
 abbrev pub IsRising : List Csn → Type 0
 IsRising csns = (i j : ℕ) → i < j → j < length csns → csn_lt (slice_index_or csns i zero_csn) (slice_index_or csns j zero_csn) ≡ true

@@ -3,13 +3,13 @@
 ghost use Rattle.std.specs.Prelude.{◌≡◌, ◌+◌, ◌<◌, ◌≤◌, ◌↔◌, ◌++◌, ◌∷◌, [], ℕ, true, false, length, slice_index_or, Contains, IsTrue, IsErr, OnOk, OnErr, IfOk, MatchOption, vec_len, vec_capacity};
 ghost use Rattle.repl_data.specs.declared.csn.Csn.{Csn};
 ghost use Rattle.repl_data.specs.Order.{csn_lt, zero_csn};
-ghost use Rattle.pending_core.specs.Pending.{IsRising, IsAbove, IsLeast, without};
+ghost use Rattle.pending_core.specs.Pending.{places, IsRising, IsAbove, IsLeast, without};
 
 use repl_data::{Csn, NoMemory};
 use std::alloc::Global;
 use std::marker::Model;
 
-/// The number of CSNs that can be pending at a time.
+/// The number of CSNs that can be pending at a time. (Contracts name it `places`.)
 pub const PLACES: usize = 1024;
 
 /// As many CSNs are pending as can be.
@@ -27,13 +27,13 @@ pub struct PendingList {
 impl Model for PendingList {
     ghost use Rattle.std.specs.Prelude.{◌≤◌, List, vec_len, vec_capacity};
     ghost use Rattle.repl_data.specs.declared.csn.Csn.{Csn};
-    ghost use Rattle.pending_core.specs.Pending.{IsRising};
+    ghost use Rattle.pending_core.specs.Pending.{IsRising, places};
 
     ghost Value = { List Csn };
 
     ghost view = { λ p. p.held.items };
 
-    ghost invariant = { λ p. IsRising p.held.items × (vec_len p.held ≤ 1024) × (1024 ≤ vec_capacity p.held) };
+    ghost invariant = { λ p. IsRising p.held.items × (vec_len p.held ≤ places) × (places ≤ vec_capacity p.held) };
 }
 
 impl PendingList {
@@ -56,7 +56,7 @@ impl PendingList {
 
     pub fn len(&self) -> usize
         ensures value { result ≡ length self.now }
-        ensures places { length self.now ≤ PLACES }
+        ensures places { length self.now ≤ places }
         ensures rising { IsRising self.now }
     {
         self.held.len()
@@ -69,7 +69,7 @@ impl PendingList {
     }
 
     pub fn is_full(&self) -> bool
-        ensures { IsTrue result ↔ (length self.now ≡ PLACES) }
+        ensures { IsTrue result ↔ (length self.now ≡ places) }
     {
         self.held.len() == PLACES
     }
@@ -92,7 +92,7 @@ impl PendingList {
     pub fn begin(&mut self, csn: Csn) -> Result<(), Full>
         requires { IsAbove self.old csn }
         ensures ok { OnOk result (self.new ≡ self.old ++ csn ∷ []) }
-        ensures full { IsErr result ↔ (length self.old ≡ PLACES) }
+        ensures full { IsErr result ↔ (length self.old ≡ places) }
         ensures err { OnErr result (self.new ≡ self.old) }
     {
         if self.held.len() == PLACES {

@@ -1,5 +1,5 @@
 -- What is known of the entries of a closed set: it stands in rising order of id, each parent below its child.
-use Rattle.std.proofs.Common.{◌≡◌, ℕ, List, [], ◌∷◌, ◌++◌, refl, sym, ap, subst, ◌∙◌, inl, inr, ◌<◌, arith}
+use Rattle.std.proofs.Common.{◌≡◌, ℕ, List, [], ◌∷◌, refl, sym, ap, subst, ◌∙◌, inl, inr, ◌<◌, arith}
 use Rattle.std.specs.Prelude.{Bool, true, false, cond, ◌||◌, ◌⊎◌, map, filter, flat_map, if◌then◌else◌}
 use Rattle.std.specs.List.{AllByRecursion, list_any, list_all}
 use Rattle.std.specs.declared.cmp.Ordering.{Ordering}
@@ -22,6 +22,7 @@ use Rattle.repl_data.proofs.Orders.{split, csn_total, csn_exact, uid_total, uid_
 use Rattle.repl_data.proofs.InOrder.{Rises, in_order_by-Rises, is_equal}
 use Rattle.repl_data.proofs.PresenceLaws.{present_of-rule, present_of-unique}
 use Rattle.repl_data.specs.Presence.{is_live, is_child, present_of, HasParentBelow, ObeysRule, is_present_in}
+use Rattle.repl_data.proofs.Loops.{all_append}
 use Rattle.repl_data.proofs.Sound.{not_both, both_true, neither, not_false, sound_order}
 
 abbrev id_of : EntryFacts → Uid
@@ -81,10 +82,6 @@ parents_below c u (Add parent rdn attrs) h =
 parents_below c u (Modify mods) h = tt
 parents_below c u (Ren rdn dropped) h = tt
 parents_below c u Del h = tt
-
-all_append : {X : Type 0} (P : X → Type 0) (xs ys : List X) → AllByRecursion P xs → AllByRecursion P ys → AllByRecursion P (xs ++ ys)
-all_append P [] ys h g = g
-all_append P (x ∷ xs) ys h g = (h.0, all_append P xs ys h.1 g)
 
 -- each change of the entry u names a parent below u, if any
 own_parents_below : (u : Uid) (xs : List Change) → list_all is_sound xs ≡ true → AllByRecursion (λ (p : Csn × Uid). uid_cmp p.1 u ≡ Less) (flat_map (λ (c : Change). parents_given c.csn c.body) (of_entry xs u))

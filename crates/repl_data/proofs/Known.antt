@@ -76,7 +76,7 @@ known_ids suffix changes u =
     ∙ (λ i. eq_turned suffix_id u i || list_any (λ (v : Uid). eq_turned v u i) (added_ids changes))
 
 -- an entry of the view, by what is known of it
-abbrev present_entry : List EntryFacts → EntryFacts → PresentEntry
+abbrev pub present_entry : List EntryFacts → EntryFacts → PresentEntry
 present_entry present e = record { id = e.id; parent = e.parent; name = e.rdn; shown = shown_rdn present e; is_glue = not (is_live e); attrs = attrs_shown e }
 
 abbrev tombstone : EntryFacts → Tombstone

@@ -1,3 +1,4 @@
+pub mod Bools
 pub mod Numbers
 pub mod Bytes
 pub mod Orders
@@ -7,6 +8,7 @@ pub mod SameView
 pub mod Sound
 pub mod SameSet
 pub mod InOrder
+pub mod KeyPlaces
 pub mod Steps
 pub mod PresenceLaws
 pub mod ClosedLaws
@@ -20,4 +22,5 @@ pub mod CheckLaws
 pub mod Rows
 pub mod TextKeys
 pub mod Known
+pub mod Paths
 pub mod Loops

@@ -4,11 +4,32 @@ use Rattle.std.specs.Prelude.{filter, flat_map, insert}
 use Rattle.std.proofs.lemmas.List.{take_more, set_split}
 use Rattle.std.proofs.Math.Seq.{drop-cons}
 use Rattle.std.proofs.lemmas.List.Concat.{flat_map-append}
+use Rattle.std.specs.List.{AllByRecursion}
 use Rattle.std.specs.Cmp.Lexicographic.{slice_cmp}
 use Rattle.std.specs.Ordering.{ordering_then}
 use Rattle.std.specs.declared.cmp.Ordering.{Ordering}
 use Rattle.std.specs.declared.cmp.Ordering.TheVariants.{Less, Equal, Greater}
 use Rattle.repl_data.specs.Order.{foldr, put_by, in_order_by, by_order}
+
+-- ---- small laws of lists, for every crate
+
+pub map_same : {X : Type 0} (xs : List X) → map (λ x. x) xs ≡ xs
+map_same [] = refl
+map_same (x ∷ xs) = ap (λ r. x ∷ r) (map_same xs)
+
+pub map_map : {X Y Z : Type 0} (f : Y → Z) (g : X → Y) (xs : List X) → map f (map g xs) ≡ map (λ x. f (g x)) xs
+map_map f g [] = refl
+map_map f g (x ∷ xs) = ap (λ r. f (g x) ∷ r) (map_map f g xs)
+
+pub all_append : {X : Type 0} (P : X → Type 0) (xs ys : List X) → AllByRecursion P xs → AllByRecursion P ys → AllByRecursion P (xs ++ ys)
+all_append P [] ys h g = g
+all_append P (x ∷ xs) ys h g = (h.0, all_append P xs ys h.1 g)
+
+pub all_map : {X Y : Type 0} (P : Y → Type 0) (f : X → Y) (xs : List X) → AllByRecursion (λ x. P (f x)) xs → AllByRecursion P (map f xs)
+all_map P f [] h = tt
+all_map P f (x ∷ xs) h = (h.0, all_map P f xs h.1)
+
+-- ---- one more element
 
 module _ {X Y : Type 0} where
   pub map_append : (f : X → Y) (xs ys : List X) → map f (xs ++ ys) ≡ map f xs ++ map f ys
@@ -34,7 +55,7 @@ module _ {X : Type 0} where
       by true e = ap (λ r. x ∷ r) e
       by false e = e
 
-  append_nil : (ys : List X) → ys ++ [] ≡ ys
+  pub append_nil : (ys : List X) → ys ++ [] ≡ ys
   append_nil [] = refl
   append_nil (y ∷ ys) = ap (λ r. y ∷ r) (append_nil ys)
 
@@ -51,6 +72,18 @@ module _ {X : Type 0} where
   -- a filter takes the element or not
   pub filter_more : (p : X → Bool) (xs : List X) (i : ℕ) (d : X) → i < length xs → filter p (take (i + 1) xs) ≡ filter p (take i xs) ++ cond (p (get_or xs i d)) (get_or xs i d ∷ []) []
   filter_more p xs i d l = ap (filter p) (take_more xs i d l) ∙ filter_append p (take i xs) (get_or xs i d ∷ [])
+
+module _ {X Y : Type 0} where
+  pub map_filter_more : (g : X → Y) (p : X → Bool) (xs : List X) (i : ℕ) (d : X) → i < length xs → map g (filter p (take (i + 1) xs)) ≡ map g (filter p (take i xs)) ++ cond (p (get_or xs i d)) (g (get_or xs i d) ∷ []) []
+  map_filter_more g p xs i d l =
+      ap (λ r. map g (filter p r)) (take_more xs i d l)
+      ∙ ap (map g) (filter_append p (take i xs) (get_or xs i d ∷ []))
+      ∙ map_append g (filter p (take i xs)) (cond (p (get_or xs i d)) (get_or xs i d ∷ []) [])
+      ∙ ap (λ r. map g (filter p (take i xs)) ++ r) (by (p (get_or xs i d)))
+    where
+      by : (b : Bool) → map g (cond b (get_or xs i d ∷ []) []) ≡ cond b (g (get_or xs i d) ∷ []) []
+      by true = refl
+      by false = refl
 
 module _ {X Y Z : Type 0} where
   pub map_map_more : (f : Y → Z) (h : X → Y) (xs : List X) (i : ℕ) (d : X) → i < length xs → map f (map h (take (i + 1) xs)) ≡ map f (map h (take i xs)) ++ f (h (get_or xs i d)) ∷ []

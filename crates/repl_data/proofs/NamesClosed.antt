@@ -27,16 +27,14 @@ use Rattle.repl_data.specs.Presence.{is_live, is_child, present_of, StandsIn}
 use Rattle.repl_data.specs.Names.{is_id_part, has_id, shown_rdn}
 use Rattle.repl_data.proofs.Orders.{csn_total, csn_exact, uid_total, uid_exact}
 use Rattle.repl_data.proofs.InOrder.{any-in_order_by, either_true, is_equal}
+use Rattle.repl_data.proofs.Bools.{either_false}
+use Rattle.repl_data.proofs.Loops.{all_append}
 use Rattle.repl_data.proofs.Sound.{not_both, both_true, not_true, not_false, neither, no_faults, sound_order}
 use Rattle.repl_data.proofs.CheckLaws.{any-position}
 use Rattle.repl_data.proofs.ClosedLaws.{less, no_csn_below}
 use Rattle.repl_data.proofs.NamesDiffer.{shown_differ}
 
 -- ---- a sound change gives no name with a part for the id
-
-either_false : (a b : Bool) → a ≡ false → b ≡ false → (a || b) ≡ false
-either_false true b h g = absurd (not_both true refl h)
-either_false false b h g = g
 
 -- no derived part, no part for the id
 no_id_part : (a : Ava) → is_derived_ava a ≡ false → is_id_part (a.attr.name, a.val.key) ≡ false
@@ -87,10 +85,6 @@ wider x xs u (p ∷ ps) h =
 from_first : (x : Change) (xs : List Change) (u : Uid) (ps : List (Csn × Rdn)) → x.target ≡ u → AllByRecursion (IsPlainOf x.csn) ps → AllByRecursion (IsGiven (x ∷ xs) u) ps
 from_first x xs u [] e h = tt
 from_first x xs u (p ∷ ps) e h = (record { by_change = x; stands = inl refl; own = e; at = h.0.0; plain = h.0.1 }, from_first x xs u ps e h.1)
-
-all_append : {X : Type 0} (P : X → Type 0) (xs ys : List X) → AllByRecursion P xs → AllByRecursion P ys → AllByRecursion P (xs ++ ys)
-all_append P [] ys h g = g
-all_append P (x ∷ xs) ys h g = (h.0, all_append P xs ys h.1 g)
 
 abbrev own_names : List Change → Uid → List (Csn × Rdn)
 own_names xs u = flat_map (λ (c : Change). names_given c.csn c.body) (of_entry xs u)

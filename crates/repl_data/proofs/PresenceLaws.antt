@@ -11,14 +11,11 @@ use Rattle.repl_data.specs.Order.{uid_cmp, uid_eq, suffix_id}
 use Rattle.repl_data.specs.Facts.{EntryFacts}
 use Rattle.repl_data.specs.Presence.{is_live, is_child, present_of, is_among_entries, HasParentBelow, ObeysRule, is_present_in}
 use Rattle.repl_data.proofs.Orders.{uid_total}
+use Rattle.repl_data.proofs.Bools.{and_true, and_false}
 use Rattle.repl_data.proofs.InOrder.{Rises}
 
 abbrev id_of : EntryFacts → Uid
 id_of e = e.id
-
-and_false : (a : Bool) → (a && false) ≡ false
-and_false true = refl
-and_false false = refl
 
 not_child : (u : Uid) (d : EntryFacts) → (uid_eq d.id suffix_id ≡ true) ⊎ (uid_cmp d.parent u ≡ Less) → is_child u d ≡ false
 not_child u d (inl h) = ap (λ b. uid_eq d.parent u && not b) h ∙ and_false (uid_eq d.parent u)
@@ -38,10 +35,6 @@ any-filter {X = X} q p (x ∷ xs) = by (p x) (filter p xs) ∙ ap (λ b. (q x &&
   where
     by : (b : Bool) (ys : List X) → list_any q (cond b (x ∷ ys) ys) ≡ ((q x && b) || list_any q ys)
     by true ys = ap (λ c. c || list_any q ys) (sym (and_true (q x)))
-      where
-        and_true : (a : Bool) → (a && true) ≡ a
-        and_true true = refl
-        and_true false = refl
     by false ys = ap (λ c. c || list_any q ys) (sym (and_false (q x)))
 
 -- without the lowest entry, which is no child of the others

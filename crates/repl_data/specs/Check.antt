@@ -20,6 +20,10 @@ use Rattle.repl_data.specs.declared.change.Malformed.TheVariants.{Rid, Sub, Orde
 use Rattle.repl_data.specs.Order.{csn_lt, csn_eq, uid_eq, suffix_id, bytes_cmp, bytes_eq}
 use Rattle.repl_data.specs.Types.{is_derived_attribute, is_derived_value, is_derived_ava}
 
+-- the greatest weight of a change that is taken
+abbrev pub greatest_weight : ℕ
+greatest_weight = 2097152
+
 -- WEIGHT: 512, 32 for each attribute, modification, value and name part, and the bytes of names and
 -- spelled values, four times in names and dropped values.
 abbrev pub val_weight : Val → ℕ
@@ -159,7 +163,7 @@ faults_of_frame c =
     ∷ fault_if (is_out_of_order c.csn c.target c.body) Order
     ∷ fault_if (is_of_root c.target c.body) Root
     ∷ fault_if (has_too_many c.body) TooMany
-    ∷ fault_if (nat_lt 2097152 (weight c.body)) TooHeavy
+    ∷ fault_if (nat_lt greatest_weight (weight c.body)) TooHeavy
     ∷ []
 
 abbrev pub fault_of : Change → Option Malformed

@@ -1,4 +1,5 @@
 pub mod Order
+pub mod Ordered
 pub mod Ranks
 pub mod Text
 pub mod Types

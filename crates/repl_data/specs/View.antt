@@ -1,8 +1,9 @@
 -- THE VIEW of a set of changes, as a value, and what is asked of it.
-use Rattle.std.specs.Prelude.{ℕ, Bool, true, false, not, ◌&&◌, ◌||◌, List, [], ◌∷◌, ◌++◌, map, reverse, filter, find, flat_map, codes, Option, Some, None, option_map, count_by, if◌then◌else◌}
+use Rattle.std.specs.Prelude.{◌≡◌, ℕ, Bool, true, false, not, ◌&&◌, ◌||◌, List, [], ◌∷◌, ◌++◌, map, reverse, filter, find, flat_map, codes, Option, Some, None, option_map, count_by, if◌then◌else◌}
 use Rattle.std.specs.List.{list_any}
 use Rattle.std.specs.Cmp.Lexicographic.{slice_cmp}
 use Rattle.std.specs.declared.cmp.Ordering.{Ordering}
+use Rattle.std.specs.declared.cmp.Ordering.TheVariants.{Less}
 use Rattle.std.specs.Ordering.{ordering_then}
 use Rattle.repl_data.specs.declared.csn.Uid.{Uid}
 use Rattle.repl_data.specs.declared.change.AttrKey.{AttrKey}
@@ -222,13 +223,19 @@ parent_of v u =
 abbrev pub is_known_in : DirectoryView → Uid → Bool
 is_known_in v u = list_any (λ (e : PresentEntry). uid_eq e.id u) v.present || list_any (λ (e : Tombstone). uid_eq e.id u) v.gone
 
--- the present entries, parents first and siblings in order of shown RDN key
+-- THE ORDER OF A LISTING: parents first, and siblings in order of shown RDN key. Entries compare by their paths
+-- of RDN keys from the suffix down. (No two have one path. The id stands beside it so that the order loses none.)
 abbrev pub path_key : DirectoryView → PresentEntry → List (List (List ℕ × List ℕ)) × Uid
 path_key v e = (reverse (map rdn_key (path_of v e.id)), e.id)
 
 abbrev pub path_key_cmp : List (List (List ℕ × List ℕ)) × Uid → List (List (List ℕ × List ℕ)) × Uid → Ordering
 path_key_cmp a b = ordering_then (slice_cmp rdn_key_cmp a.0 b.0) (uid_cmp a.1 b.1)
 
+-- whether a present entry is listed before another one
+abbrev pub IsListedBefore : DirectoryView → PresentEntry → PresentEntry → Type 0
+IsListedBefore v a b = path_key_cmp (path_key v a) (path_key v b) ≡ Less
+
+-- the present entries in this order
 abbrev pub in_path_order : DirectoryView → List PresentEntry
 in_path_order v = in_order_by (path_key v) path_key_cmp v.present
 

@@ -10,13 +10,18 @@ ghost use Rattle.repl_data.specs.declared.change.Attr.{Attr};
 ghost use Rattle.repl_data.specs.declared.change.Mod.{Mod};
 ghost use Rattle.repl_data.specs.Order.{bytes_cmp, bytes_eq};
 ghost use Rattle.repl_data.specs.Types.{is_derived_attribute, is_derived_value, is_derived_ava};
-ghost use Rattle.repl_data.specs.Check.{adds_nothing, is_empty, val_weight, attr_weight, part_weight, weight, falls, falls_after, vals_rise, parts_of, part_falls, either_place, either_fault, first_fault, fault_at, fault_if, faults_of_frame, faults_of_body, names_derived, has_value, lacks_name_value, is_out_of_order, is_of_root, has_too_many, empty_places, double_places, derived_places, fault_of};
+ghost use Rattle.repl_data.specs.Check.{greatest_weight, adds_nothing, is_empty, val_weight, attr_weight, part_weight, weight, falls, falls_after, vals_rise, parts_of, part_falls, either_place, either_fault, first_fault, fault_at, fault_if, faults_of_frame, faults_of_body, names_derived, has_value, lacks_name_value, is_out_of_order, is_of_root, has_too_many, empty_places, double_places, derived_places, fault_of};
 ghost use Rattle.repl_data.specs.Places.{first_of, earlier_of};
 
 use crate::change::{Attr, AttrKey, Ava, Body, Change, Malformed, Mod, ModKind, Rdn, Val};
 use crate::csn::{Csn, Uid};
 use crate::items::Bytes;
+use crate::sorted::{Keyed, is_below};
 use crate::truth::{and, or, same_bytes};
+use crate::types::{is_derived_attribute, is_derived_part, is_derived_value};
+
+/// The greatest weight of a change that is taken.
+pub const GREATEST_WEIGHT: u128 = 2_097_152;
 
 /// The weight of values: exact where it fits, and else the greatest number.
 fn vals_weight(vals: &[Val]) -> u128
@@ -85,44 +90,6 @@ pub fn weight(body: &Body) -> u128
     }
 }
 
-/// What stands in order of key.
-trait Keyed {
-    ghost key_of: { Self → List ℕ };
-
-    fn key(&self) -> &Bytes
-        ensures { result.now ≡ key_of self.now };
-}
-
-impl Keyed for Ava {
-    ghost key_of = { λ a. a.attr.name };
-
-    fn key(&self) -> &Bytes {
-        &self.attr.name
-    }
-}
-
-impl Keyed for Attr {
-    ghost key_of = { λ a. a.attr.name };
-
-    fn key(&self) -> &Bytes {
-        &self.attr.name
-    }
-}
-
-impl Keyed for Val {
-    ghost key_of = { λ v. v.key };
-
-    fn key(&self) -> &Bytes {
-        &self.key
-    }
-}
-
-fn is_below(a: &Bytes, b: &Bytes) -> bool
-    ensures { result ≡ is_lt (bytes_cmp a.now b.now) }
-{
-    a.as_slice().cmp(b.as_slice()).is_lt()
-}
-
 /// The place of the first item whose key is not above the one before it.
 fn first_fall<T: Keyed>(items: &[T]) -> Option<usize>
     ensures { result ≡ position_from (λ b. b) 0 (falls T.key_of items.now) }
@@ -161,41 +128,16 @@ fn is_absent(place: Option<usize>) -> bool
     }
 }
 
-fn is_derived_name(attr: &AttrKey) -> bool
-    ensures { result ≡ is_derived_attribute attr.now }
-{
-    let id = same_bytes(attr.name.as_slice(), b"nsuniqueid".as_slice());
-    let parent = same_bytes(attr.name.as_slice(), b"nsparentuniqueid".as_slice());
-    let conflict = same_bytes(attr.name.as_slice(), b"nsds5replconflict".as_slice());
-    let vector = same_bytes(attr.name.as_slice(), b"nsds50ruv".as_slice());
-    or(id, or(parent, or(conflict, vector)))
-}
-
-fn is_derived_class(attr: &AttrKey, val: &Val) -> bool
-    ensures { result ≡ is_derived_value attr.now val.now }
-{
-    let class = same_bytes(attr.name.as_slice(), b"objectclass".as_slice());
-    let glue = same_bytes(val.key.as_slice(), b"glue".as_slice());
-    let tombstone = same_bytes(val.key.as_slice(), b"nstombstone".as_slice());
-    and(class, or(glue, tombstone))
-}
-
-fn is_derived_part(a: &Ava) -> bool
-    ensures { result ≡ is_derived_ava a.now }
-{
-    or(is_derived_name(&a.attr), is_derived_class(&a.attr, &a.val))
-}
-
 fn has_derived_class(attr: &AttrKey, vals: &[Val]) -> bool
     ensures { result ≡ list_any (is_derived_value attr.now) vals.now }
 {
-    vals.iter().any(|v| is_derived_class(attr, v))
+    vals.iter().any(|v| is_derived_value(attr, v))
 }
 
 fn is_derived(attr: &AttrKey, vals: &[Val]) -> bool
     ensures { result ≡ names_derived attr.now vals.now }
 {
-    or(is_derived_name(attr), has_derived_class(attr, vals))
+    or(is_derived_attribute(attr), has_derived_class(attr, vals))
 }
 
 fn has_key(vals: &[Val], key: &Bytes) -> bool
@@ -354,7 +296,7 @@ fn derived_in_ren(parts: &[Ava], dropped: &[Ava]) -> Option<usize>
 }
 
 fn empty_place(body: &Body) -> Option<usize>
-    requires { weight body.now ≤ 2097152 }
+    requires { weight body.now ≤ greatest_weight }
     ensures { result ≡ position_from (λ b. b) 0 (empty_places body.now) }
 {
     match body {
@@ -366,7 +308,7 @@ fn empty_place(body: &Body) -> Option<usize>
 }
 
 fn double_place(body: &Body) -> Option<usize>
-    requires { weight body.now ≤ 2097152 }
+    requires { weight body.now ≤ greatest_weight }
     ensures { result ≡ position_from (λ b. b) 0 (double_places body.now) }
 {
     match body {
@@ -378,7 +320,7 @@ fn double_place(body: &Body) -> Option<usize>
 }
 
 fn derived_place(body: &Body) -> Option<usize>
-    requires { weight body.now ≤ 2097152 }
+    requires { weight body.now ≤ greatest_weight }
     ensures { result ≡ position_from (λ b. b) 0 (derived_places body.now) }
 {
     match body {
@@ -427,9 +369,9 @@ fn too_many(body: &Body) -> bool
 }
 
 fn too_heavy(body: &Body) -> bool
-    ensures { result ≡ nat_lt 2097152 (weight body.now) }
+    ensures { result ≡ nat_lt greatest_weight (weight body.now) }
 {
-    weight(body) > 2_097_152
+    weight(body) > GREATEST_WEIGHT
 }
 
 fn fault_where(is_so: bool, why: Malformed) -> Option<Malformed>
@@ -448,7 +390,7 @@ fn either(a: Option<Malformed>, b: Option<Malformed>) -> Option<Malformed>
 }
 
 fn empty_fault(body: &Body) -> Option<Malformed>
-    requires { weight body.now ≤ 2097152 }
+    requires { weight body.now ≤ greatest_weight }
     ensures { result ≡ fault_at Malformed.Empty (empty_places body.now) }
 {
     match empty_place(body) {
@@ -458,7 +400,7 @@ fn empty_fault(body: &Body) -> Option<Malformed>
 }
 
 fn double_fault(body: &Body) -> Option<Malformed>
-    requires { weight body.now ≤ 2097152 }
+    requires { weight body.now ≤ greatest_weight }
     ensures { result ≡ fault_at Malformed.DoubleKey (double_places body.now) }
 {
     match double_place(body) {
@@ -468,7 +410,7 @@ fn double_fault(body: &Body) -> Option<Malformed>
 }
 
 fn derived_fault(body: &Body) -> Option<Malformed>
-    requires { weight body.now ≤ 2097152 }
+    requires { weight body.now ≤ greatest_weight }
     ensures { result ≡ fault_at Malformed.Derived (derived_places body.now) }
 {
     match derived_place(body) {
@@ -478,7 +420,7 @@ fn derived_fault(body: &Body) -> Option<Malformed>
 }
 
 fn body_fault(body: &Body) -> Option<Malformed>
-    requires { weight body.now ≤ 2097152 }
+    requires { weight body.now ≤ greatest_weight }
     ensures { result ≡ first_fault (faults_of_body body.now) }
 {
     let empty = empty_fault(body);

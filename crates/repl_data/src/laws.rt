@@ -1,12 +1,13 @@
 //! What holds of every set of changes, for who asks.
 
-ghost use Rattle.std.specs.Prelude.{◌≡◌, ◌||◌, ℕ, Bool, true, false, List, [], ◌∷◌, ◌++◌, IsTrue, map, filter};
+ghost use Rattle.std.specs.Prelude.{◌≡◌, ◌||◌, ℕ, Bool, true, false, List, [], ◌∷◌, ◌++◌, IsTrue, Some, map, filter, reverse};
+ghost use Rattle.std.specs.declared.cmp.Ordering.TheVariants.{Less};
 ghost use Rattle.std.specs.Str.{is_utf8};
 ghost use Rattle.std.specs.List.{AllByRecursion, list_all, list_any};
 ghost use Rattle.repl_data.specs.declared.csn.Uid.{Uid};
 ghost use Rattle.repl_data.specs.declared.change.Change.{Change};
 ghost use Rattle.repl_data.specs.declared.change.Suffix.{Suffix};
-ghost use Rattle.repl_data.specs.Order.{uid_cmp, rdn_key};
+ghost use Rattle.repl_data.specs.Order.{uid_cmp, uid_eq, suffix_id, rdn_key, rdn_key_cmp};
 ghost use Rattle.repl_data.specs.Text.{IsInRange};
 ghost use Rattle.repl_data.specs.Stamps.{of_entry};
 ghost use Rattle.repl_data.specs.Closed.{IsClosed, IsArrival, IsIn, SameChanges, all_differ, is_sound, is_known};
@@ -15,7 +16,7 @@ ghost use Rattle.repl_data.specs.Presence.{is_live, is_child, present_of, HasPar
 ghost use Rattle.repl_data.specs.Names.{has_id, shown_rdn};
 ghost use Rattle.repl_data.specs.Order.{put_by};
 ghost use Rattle.repl_data.specs.Key.{text_key};
-ghost use Rattle.repl_data.specs.View.{view_of, is_known_in, glue_class, tombstone_class, glue_conflict, naming_conflict, id_val};
+ghost use Rattle.repl_data.specs.View.{PresentEntry, view_of, present_at, path_of, path_key, IsListedBefore, is_known_in, glue_class, tombstone_class, glue_conflict, naming_conflict, id_val};
 
 /// The view of a set of changes does not depend on the list that spells it.
 pub fn view_laws()
@@ -61,6 +62,24 @@ pub fn name_laws()
     // The same of any list of entries in which no name has a part `nsuniqueid` of its own, and one CSN names
     // one entry.
     ensures of_entries { (present : List EntryFacts) (p : Uid) (e f : EntryFacts) → StandsIn e present → StandsIn f present → is_child p e ≡ true → is_child p f ≡ true → has_id e.rdn ≡ false → has_id f.rdn ≡ false → IsInRange e.id.csn → IsInRange f.id.csn → (e.named ≡ f.named → e.id ≡ f.id) → rdn_key (shown_rdn present e) ≡ rdn_key (shown_rdn present f) → e.id ≡ f.id }
+{}
+
+/// The path of a present entry in the view of a closed set, and the order of a listing that follows from it.
+pub fn path_laws()
+    // The path of the suffix entry is empty.
+    ensures suffix { (suffix : Suffix) (xs : List Change) → path_of (view_of suffix xs) suffix_id ≡ [] }
+
+    // The path of any other is the RDN that it shows and then the path of its parent.
+    ensures step { (suffix : Suffix) (xs : List Change) (u : Uid) (e : PresentEntry) → IsClosed xs → present_at (view_of suffix xs) u ≡ Some e → uid_eq u suffix_id ≡ false → path_of (view_of suffix xs) u ≡ e.shown ∷ path_of (view_of suffix xs) e.parent }
+
+    // So from the suffix down the keys of the parent's path come first, and then its own.
+    ensures key { (suffix : Suffix) (xs : List Change) (e : PresentEntry) → IsClosed xs → present_at (view_of suffix xs) e.id ≡ Some e → uid_eq e.id suffix_id ≡ false → (path_key (view_of suffix xs) e).0 ≡ reverse (map rdn_key (path_of (view_of suffix xs) e.parent)) ++ rdn_key e.shown ∷ [] }
+
+    // A parent is listed before its child.
+    ensures parent_first { (suffix : Suffix) (xs : List Change) (p e : PresentEntry) → IsClosed xs → present_at (view_of suffix xs) e.id ≡ Some e → uid_eq e.id suffix_id ≡ false → p.id ≡ e.parent → IsListedBefore (view_of suffix xs) p e }
+
+    // Siblings are listed in order of the RDNs that they show.
+    ensures siblings { (suffix : Suffix) (xs : List Change) (e f : PresentEntry) → IsClosed xs → present_at (view_of suffix xs) e.id ≡ Some e → uid_eq e.id suffix_id ≡ false → present_at (view_of suffix xs) f.id ≡ Some f → uid_eq f.id suffix_id ≡ false → e.parent ≡ f.parent → rdn_key_cmp (rdn_key e.shown) (rdn_key f.shown) ≡ Less → IsListedBefore (view_of suffix xs) e f }
 {}
 
 /// Each value that a view derives has the key of its text, as any other value: a search for the shown text finds it.

@@ -7,7 +7,9 @@ mod csn;
 mod faults;
 mod items;
 mod laws;
+mod sorted;
 mod truth;
+mod types;
 mod view;
 
 pub use change::{
@@ -15,8 +17,10 @@ pub use change::{
     Shown, ShownEntry, ShownEntryList, ShownList, Suffix, Update, Val, ValList, VectorText,
 };
 pub use csn::{Csn, CsnList, Uid, UidList};
-pub use faults::{check, weight};
+pub use faults::{GREATEST_WEIGHT, check, weight};
 pub use items::{Bytes, BytesList, Items, NoMemory};
-pub use laws::{derived_laws, name_laws, presence_laws, view_laws};
+pub use laws::{derived_laws, name_laws, path_laws, presence_laws, view_laws};
+pub use sorted::{Keyed, found_by_key, is_below, place_of, put_by_key};
 pub use truth::{and, or, same_bytes};
+pub use types::{is_derived_attribute, is_derived_part, is_derived_value, is_single};
 pub use view::{Standing, View};

@@ -51,7 +51,7 @@ impl Vector {
     /// The entry of this originator, and zero where it has none. Costs the logarithm of the number
     /// of entries.
     pub fn get(&self, rid: u16) -> Csn
-        ensures { result ≡ entry_of self.now rid }
+        ensures entry { result ≡ entry_of self.now rid }
     {
         entry_in(self.list.as_slice(), rid)
     }

@@ -1,6 +1,6 @@
 use Rattle.attr_keys.proofs.Again.{int-again, tel-again, oct-again}
 use Rattle.attr_keys.proofs.NameKeys.{key_of-good}
-use Rattle.attr_keys.proofs.NamesAgain.{key_of-again}
+use Rattle.attr_keys.proofs.NamesAgain.{key_of-again, single-key, single-keys}
 use Rattle.attr_keys.proofs.Texts.{value_key-text}
 use Rattle.attr_keys.proofs.TextsAgain.{ia5-again}
 use Rattle.attr_keys.proofs.ExactAgain.{exact-again}
@@ -29,3 +29,9 @@ returns-clause-ascii_again c = ia5-again
 
 pub returns-clause-exact_again : goal.returns-clause-exact_again
 returns-clause-exact_again c = exact-again
+
+pub returns-clause-single : goal.returns-clause-single
+returns-clause-single c = single-key
+
+pub returns-clause-single_names : goal.returns-clause-single_names
+returns-clause-single_names c = single-keys

@@ -17,7 +17,7 @@ loop-last-preserved c =
     let here = ap (λ v. get_or v c.loop-last.last-index zero_csn) value in
     let l = subst (λ v. c.loop-last.last-index < length v) value c.loop-last-test.true in
     let e = entry_here c.args.limit.now last.rid last c.entries-entries.ensures.vector (c.loop-last.last-index, l, sym here) refl in
-    let new = subst (λ b. IsLeastOf c.args.index.now (is_in_reach b last) c.next_of.result) c.get.ensures c.next_of.ensures in
+    let new = subst (λ b. IsLeastOf c.args.index.now (is_in_reach b last) c.next_of.result) c.get.ensures.entry c.next_of.ensures in
     let more = best_more c.args.index.now c.args.beyond.now c.args.limit.now c.loop-last.last-index last c.loop-last.best c.next_of.result here e c.loop-last.invariant new in
     subst (λ z. IsBestOf c.args.index.now (is_between c.args.beyond.now c.args.limit.now) c.args.limit.now (c.loop-last.last-index + 1) z) (sym c.lower_of-best.ensures) more
 

@@ -4,7 +4,8 @@ use Rattle.change_log.proofs.Indexed.{prev_indexed}
 use Rattle.change_log.proofs.log.ChangeLog.prev.Goals as goal
 
 pub returns : goal.returns
-returns c =
-    rw c.as_slice.ensures.value at c.prev_in.ensures
-    ∙ prev_indexed c.self.inside.index.items c.self.inside.changes.items c.args.csn c.self.invariant.0
-    ∙ ap (λ (l : Log). prev_in l.changes c.args.csn) c.self.view_is
+returns c = record {
+  greatest_below = rw c.as_slice.ensures.value at c.prev_in.ensures
+      ∙ prev_indexed c.self.inside.index.items c.self.inside.changes.items c.args.csn c.self.invariant.0
+      ∙ ap (λ (l : Log). prev_in l.changes c.args.csn) c.self.view_is;
+}

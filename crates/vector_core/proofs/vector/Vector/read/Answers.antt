@@ -19,14 +19,14 @@ returns-then-is_gt-clause-none c = λ same csns is.
     let inv = c.loop-item.invariant in
     none_where_double c.as_slice-items.result.now c.loop-item.item-index c.item-item.result c.in-Some.csn c.loop-item.vector inv.1.0 c.loop-item-test.true c.item-item.is
     h.0 (sym c.as_slice.ensures ∙ h.1) inv.1.1 inv.1.2
-    (λ z. not_zero_from_gt c.get.result (sym (c.is_gt.ensures ∙ ap is_gt c.compare.ensures) ∙ c.if-is_gt.true) (c.get.ensures ∙ z))
+    (λ z. not_zero_from_gt c.get.result (sym (c.is_gt.ensures ∙ ap is_gt c.compare.ensures) ∙ c.if-is_gt.true) (c.get.ensures.entry ∙ z))
     csns (subst (λ t. IsVectorText t csns) (sym c.as_slice-items.ensures) is)
 
 pub loop-item-preserved : goal.loop-item-preserved
 loop-item-preserved c =
     let h = rw c.in-Some.is at c.in_ok-csn.ensures.found in
     let inv = c.loop-item.invariant in
-    let zero = sym c.get.ensures ∙ zero_from_not_gt c.get.result (sym (c.is_gt.ensures ∙ ap is_gt c.compare.ensures) ∙ c.if-is_gt.false) in (
+    let zero = sym c.get.ensures.entry ∙ zero_from_not_gt c.get.result (sym (c.is_gt.ensures ∙ ap is_gt c.compare.ensures) ∙ c.if-is_gt.false) in (
       c.in_ok-raise.ensures.vector,
       (
         inv.1.0 ++ c.in-Some.csn ∷ [],

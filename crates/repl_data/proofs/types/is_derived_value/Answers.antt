@@ -3,7 +3,7 @@ use Rattle.std.specs.Prelude.{◌||◌, ◌&&◌}
 use Rattle.repl_data.specs.Order.{bytes_eq}
 use Rattle.repl_data.specs.Types.{is_derived_value}
 use Rattle.repl_data.proofs.CheckLaws.{or_false}
-use Rattle.repl_data.proofs.faults.is_derived_class.Goals as goal
+use Rattle.repl_data.proofs.types.is_derived_value.Goals as goal
 
 pub returns : goal.returns
 unfolding is_derived_value
