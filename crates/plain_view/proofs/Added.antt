@@ -27,7 +27,7 @@ use Rattle.repl_data.proofs.ClosedLaws.{zero_least}
 use Rattle.repl_data.proofs.Arrival.{first_of_entry, all_facts-added}
 use Rattle.plain_view.specs.Seen.{present_entry}
 use Rattle.plain_view.specs.Growth.{adds_entry, is_add, no_suffix, facts_alone, grown, HasRisingIds, is_among_present}
-use Rattle.plain_view.proofs.Views.{map_map}
+use Rattle.repl_data.proofs.Loops.{map_map, all_append}
 use Rattle.repl_data.proofs.Known.{any_map, eq_turned, either_on, known_ids}
 use Rattle.plain_view.proofs.Grown.{IsPlain, put_facts, all_put, view_plain, view_grown, entry_id}
 
@@ -55,10 +55,6 @@ first_ones P (x ∷ xs) ys h = (h.0, first_ones P xs ys h.1)
 last_ones : {X : Type 0} (P : X → Type 0) (xs ys : List X) → AllByRecursion P (xs ++ ys) → AllByRecursion P ys
 last_ones P [] ys h = h
 last_ones P (x ∷ xs) ys h = last_ones P xs ys h.1
-
-all_append : {X : Type 0} (P : X → Type 0) (xs ys : List X) → AllByRecursion P xs → AllByRecursion P ys → AllByRecursion P (xs ++ ys)
-all_append P [] ys h g = g
-all_append P (x ∷ xs) ys h g = (h.0, all_append P xs ys h.1 g)
 
 -- WHAT ADDS SAY OF AN ENTRY
 not_below_zero : (c : Csn) → csn_lt c zero_csn ≡ false

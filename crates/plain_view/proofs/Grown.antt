@@ -20,6 +20,7 @@ use Rattle.plain_view.specs.Seen.{present_entry, tombstone}
 use Rattle.plain_view.specs.Growth.{gives_way, stands_before, yields, joined, renamed, fresh, placed, id_of, grown, HasRisingIds, is_among_present}
 use Rattle.plain_view.proofs.Places.{insert_is}
 use Rattle.repl_data.proofs.Known.{any_map, eq_turned, either_on}
+use Rattle.repl_data.proofs.Bools.{and_false}
 
 abbrev pub facts_id : EntryFacts → Uid
 facts_id e = e.id
@@ -30,10 +31,6 @@ put_facts = put_by facts_id uid_cmp
 -- it is live, and the change that added it gave it its name
 abbrev pub IsPlain : EntryFacts → Type 0
 IsPlain e = (is_live e ≡ true) × (e.named ≡ e.id.csn)
-
-and_false : (a : Bool) → (a && false) ≡ false
-and_false true = refl
-and_false false = refl
 
 either_turned : (a b c : Bool) → (b || (a || c)) ≡ (a || (b || c))
 either_turned true true c = refl

@@ -10,8 +10,8 @@ use Rattle.repl_data.specs.View.{DirectoryView, PresentEntry, shown_key, shown_k
 use Rattle.plain_view.specs.declared.view.Child.{Child}
 use Rattle.plain_view.specs.declared.view.Listed.{Listed}
 use Rattle.plain_view.specs.Listing.{child, listed}
-use Rattle.repl_data.proofs.Loops.{in_order_by_order, in_order_map, slice_cmp_map}
-use Rattle.plain_view.proofs.Views.{in_order_same, map_map, reverse_map}
+use Rattle.repl_data.proofs.Loops.{map_map, in_order_by_order, in_order_map, slice_cmp_map}
+use Rattle.plain_view.proofs.Views.{in_order_same, reverse_map}
 
 abbrev pub child_order : Child → Child → Ordering
 child_order a b = ordering_then (rdn_key_cmp (rdn_key a.shown) (rdn_key b.shown)) (uid_cmp a.id b.id)

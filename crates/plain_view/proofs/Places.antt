@@ -16,11 +16,7 @@ use Rattle.repl_data.proofs.Orders.{uid_total, split}
 use Rattle.repl_data.proofs.Sound.{neither}
 use Rattle.plain_view.specs.Growth.{yields, joined_name, joined, renamed, id_of, HasRisingIds, is_among_present}
 use Rattle.repl_data.proofs.Loops.{filter_append}
-
-is_less : (o : Ordering) → is_lt o ≡ true → o ≡ Less
-is_less Less e = refl
-is_less Equal e = let f : false ≡ true = e in cc
-is_less Greater e = let f : false ≡ true = e in cc
+use Rattle.repl_data.proofs.KeyPlaces.{is_less}
 
 above : (u v : Uid) → uid_cmp u v ≡ Less → uid_cmp v u ≡ Greater
 above u v h = uid_total.antisymm v u ∙ ap ordering_reverse h

@@ -27,23 +27,7 @@ module _ {X : Type 0} where
   pub in_order_same : (R S : X → X → Ordering) → ((a b : X) → R a b ≡ S a b) → (xs : List X) → in_order_by (λ x. x) R xs ≡ in_order_by (λ x. x) S xs
   in_order_same R S h xs = λ i. in_order_by (λ x. x) (λ a b. h a b i) xs
 
-module _ {X Y Z : Type 0} where
-  pub map_map : (f : Y → Z) (g : X → Y) (xs : List X) → map f (map g xs) ≡ map (λ x. f (g x)) xs
-  map_map f g [] = refl
-  map_map f g (x ∷ xs) = ap (λ r. f (g x) ∷ r) (map_map f g xs)
-
 module _ {X Y : Type 0} where
-  pub map_filter_more : (g : X → Y) (p : X → Bool) (xs : List X) (i : ℕ) (d : X) → i < length xs → map g (filter p (take (i + 1) xs)) ≡ map g (filter p (take i xs)) ++ cond (p (get_or xs i d)) (g (get_or xs i d) ∷ []) []
-  map_filter_more g p xs i d l =
-      ap (λ r. map g (filter p r)) (take_more xs i d l)
-      ∙ ap (map g) (filter_append p (take i xs) (get_or xs i d ∷ []))
-      ∙ map_append g (filter p (take i xs)) (cond (p (get_or xs i d)) (get_or xs i d ∷ []) [])
-      ∙ ap (λ r. map g (filter p (take i xs)) ++ r) (by (p (get_or xs i d)))
-    where
-      by : (b : Bool) → map g (cond b (get_or xs i d ∷ []) []) ≡ cond b (g (get_or xs i d) ∷ []) []
-      by true = refl
-      by false = refl
-
   pub map_flat_map_more : {Z : Type 0} (g : Y → Z) (f : X → List Y) (xs : List X) (i : ℕ) (d : X) → i < length xs → map g (flat_map f (take (i + 1) xs)) ≡ map g (flat_map f (take i xs)) ++ map g (f (get_or xs i d))
   map_flat_map_more g f xs i d l = ap (map g) (flat_map_more f xs i d l) ∙ map_append g (flat_map f (take i xs)) (f (get_or xs i d))
 
@@ -72,7 +56,3 @@ kept_users (a ∷ attrs) = ap (λ r. a ∷ r) (kept_users attrs)
 
 pub users_kept : (users : List Shown) (attrs : List Attr) → users ≡ map user attrs → users ≡ map user (map kept users)
 users_kept users attrs h = h ∙ sym (ap (map user) (ap (map kept) h ∙ kept_users attrs))
-
-pub append_nil : {X : Type 0} (ys : List X) → ys ++ [] ≡ ys
-append_nil [] = refl
-append_nil (y ∷ ys) = ap (λ r. y ∷ r) (append_nil ys)

@@ -2,17 +2,13 @@
 use Rattle.plain_view.specs.declared.acts.Act.{Act as OwnedAct}
 use Rattle.plain_view.specs.declared.acts.Act.TheVariants.{Adds as OwnedAdds, Deletes as OwnedDeletes, Clears as OwnedClears}
 use Rattle.std.specs.Prelude.{Bool, ◌&&◌, not}
-use Rattle.std.specs.List.{list_any}
 use Rattle.repl_data.specs.Names.{shown_rdn}
 use Rattle.repl_data.specs.Presence.{is_live}
 use Rattle.repl_data.specs.View.{PresentEntry, Tombstone}
 use Rattle.std.specs.Prelude.{List}
-use Rattle.repl_data.specs.declared.change.AttrKey.{AttrKey}
-use Rattle.repl_data.specs.declared.change.Val.{Val}
-use Rattle.repl_data.specs.declared.change.Rdn.{Rdn}
 use Rattle.repl_data.specs.declared.change.Attr.{Attr}
 use Rattle.repl_data.specs.declared.change.Shown.{Shown}
-use Rattle.repl_data.specs.Facts.{EntryFacts, ValFacts, shows_before, attrs_shown}
+use Rattle.repl_data.specs.Facts.{EntryFacts, attrs_shown}
 use Rattle.repl_data.specs.Names.{contends_with, is_before}
 use Rattle.repl_data.specs.Stamps.{Act, Adds, Deletes, Clears}
 
@@ -25,14 +21,6 @@ act_of (OwnedClears stamp attr) = Clears stamp attr
 -- the entry loses its name to another one
 unfoldable pub loses_to : EntryFacts → EntryFacts → Bool
 loses_to e f = contends_with e f && is_before f e
-
--- no other held value shows before the value
-unfoldable pub shows_first : Rdn → AttrKey → List ValFacts → ValFacts → Bool
-shows_first rdn t held v = not (list_any (λ w. shows_before rdn t w v) held)
-
--- a value without its stamps
-abbrev pub val_of : ValFacts → Val
-val_of v = record { key = v.key; spelled = v.spelled }
 
 -- an attribute that is kept to be shown
 abbrev pub kept : Shown → Attr

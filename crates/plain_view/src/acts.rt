@@ -20,7 +20,7 @@ use repl_data::{
 use std::alloc::Global;
 
 /// One act of a change on a value, or on a whole attribute.
-#[derive(Clone, Debug, Drop)]
+#[derive(Clone, Drop)]
 pub(crate) enum Act {
     Adds {
         stamp: Stamp,

@@ -3,9 +3,7 @@
 ghost use Rattle.std.specs.Prelude.{◌≡◌, ◌++◌, ◌∷◌, [], IfOk, OnOk, Bool, if◌then◌else◌};
 ghost use Rattle.std.specs.Option.{option_to_list, option_copied};
 
-use repl_data::{
-    AttrKey, AttrList, AvaList, Bytes, Change, Items, NoMemory, Rdn, ShownEntry, Val, ValList,
-};
+use repl_data::{AttrKey, Bytes, Change, Items, NoMemory, Rdn, ShownEntry, Val};
 use std::alloc::AllocError;
 
 /// What can be copied whole.
@@ -33,26 +31,8 @@ impl Copied for Val {
     }
 }
 
-impl Copied for AvaList {
-    fn copied(&self) -> Result<AvaList, NoMemory> {
-        Ok(self.clone()?)
-    }
-}
-
 impl Copied for Rdn {
     fn copied(&self) -> Result<Rdn, NoMemory> {
-        Ok(self.clone()?)
-    }
-}
-
-impl Copied for ValList {
-    fn copied(&self) -> Result<ValList, NoMemory> {
-        Ok(self.clone()?)
-    }
-}
-
-impl Copied for AttrList {
-    fn copied(&self) -> Result<AttrList, NoMemory> {
         Ok(self.clone()?)
     }
 }

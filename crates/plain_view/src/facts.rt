@@ -23,7 +23,7 @@ use std::marker::Model;
 
 /// A value of an entry: the greatest stamp that adds it, with its spelling there, and the greatest
 /// stamp that deletes it or its whole attribute. Zero stands for none.
-#[derive(Clone, Debug, Drop)]
+#[derive(Clone, Drop)]
 pub(crate) struct ValFacts {
     pub(crate) key: Bytes,
     pub(crate) spelled: Bytes,
@@ -39,16 +39,10 @@ impl Model for ValFacts {
     ghost view = { λ v. record { key = v.key; spelled = v.spelled; up = v.up; down = v.down } };
 }
 
-impl Copied for ValFacts {
-    fn copied(&self) -> Result<ValFacts, NoMemory> {
-        Ok(self.clone()?)
-    }
-}
-
 pub(crate) type ValFactsList = Items<ValFacts>;
 
 /// An attribute of an entry: the greatest stamp that deletes the whole of it, and its values.
-#[derive(Clone, Debug, Drop)]
+#[derive(Clone, Drop)]
 pub(crate) struct AttrFacts {
     pub(crate) attr: AttrKey,
     pub(crate) whole: Stamp,
@@ -67,7 +61,7 @@ pub(crate) type AttrFactsList = Items<AttrFacts>;
 
 /// An entry: its id, its parent, its name with the CSN of the name, its greatest Del, and its
 /// attributes. Zero stands for none.
-#[derive(Clone, Debug, Drop)]
+#[derive(Clone, Drop)]
 pub(crate) struct EntryFacts {
     pub(crate) id: Uid,
     pub(crate) parent: Uid,
@@ -148,7 +142,7 @@ impl Act {
                     None
                 }
             }
-            Act::Clears { stamp, .. } => Some(*stamp),
+            Act::Clears { stamp: all, .. } => Some(*all),
         }
     }
 

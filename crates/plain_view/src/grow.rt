@@ -130,7 +130,7 @@ fn push_lost(
 }
 
 /// What those show that lose the name that they show.
-#[tactic(auto, using(crate::proofs::Views::map_filter_more))]
+#[tactic(auto, using(repl_data::proofs::Loops::map_filter_more))]
 fn names_lost(
     alloc: Global,
     present: &[PresentEntry],

@@ -8,7 +8,7 @@ use std::cmp::Ordering;
 use std::marker::Model;
 
 /// The stamp of an act: a CSN whose part may be as great as a list of modifications is long.
-#[derive(Clone, Copy, Debug, Drop)]
+#[derive(Clone, Copy, Drop)]
 pub(crate) struct Stamp {
     time: u32,
     seq: u16,

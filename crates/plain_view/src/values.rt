@@ -1,216 +1,42 @@
-//! Which values show.
+//! The attributes that show, by what is known of their values.
 
-ghost use Rattle.std.specs.Prelude.{◌≡◌, ◌∷◌, [], ◌||◌, ◌&&◌, ◌==◌, ℕ, not, IfOk, OnOk, List, ◌++◌, position, map, flat_map, filter, codes, if◌then◌else◌};
-ghost use Rattle.std.specs.List.{list_any, before_first};
-ghost use Rattle.std.specs.Ordering.{is_lt};
-ghost use Rattle.repl_data.specs.declared.change.Ava.{Ava};
-ghost use Rattle.repl_data.specs.declared.csn.Csn.{Csn};
-ghost use Rattle.repl_data.specs.declared.change.Val.{Val};
-ghost use Rattle.repl_data.specs.declared.change.Attr.{Attr};
-ghost use Rattle.repl_data.specs.Order.{bytes_cmp, bytes_eq, csn_lt, csn_eq, csn_le};
-ghost use Rattle.repl_data.specs.Types.{is_among, base_name, single_valued, is_single};
-ghost use Rattle.repl_data.specs.Facts.{ValFacts, AttrFacts, EntryFacts, is_in_name, is_held, shows_before, vals_shown, with_values, attrs_shown};
+ghost use Rattle.std.specs.Prelude.{◌≡◌, ◌++◌, IfOk, OnOk, map, flat_map};
+ghost use Rattle.repl_data.specs.Facts.{AttrFacts, vals_shown, with_values, attrs_shown};
 ghost use Rattle.repl_data.specs.View.{user};
-ghost use Rattle.plain_view.specs.Seen.{shows_first, val_of};
 
-use crate::copied::{Copied, push_if};
-use crate::facts::{AttrFacts, EntryFacts, ValFacts, ValFactsList};
+use crate::copied::Copied;
+use crate::facts::{AttrFacts, EntryFacts, ValFacts};
 use crate::rows::UserAttrs;
-use repl_data::{
-    AttrKey, Ava, Bytes, Items, NoMemory, Rdn, Shown, ShownList, Val, ValList, or, same_bytes,
-};
-use shown_entry::Ranked;
+use repl_data::{AttrKey, Bytes, Items, NoMemory, Rdn, Shown, ShownList, ValList};
+use stamp_entry::{HeldVal, vals_shown};
 use std::alloc::Global;
+use std::cmp::Ordering;
 
-/// The types of which an entry shows one value.
-fn is_single_name(base: &[u8]) -> bool
-    ensures { result ≡ is_among single_valued base.now }
-{
-    let country = same_bytes(base, b"c".as_slice());
-    let display = same_bytes(base, b"displayname".as_slice());
-    let employee = same_bytes(base, b"employeenumber".as_slice());
-    let language = same_bytes(base, b"preferredlanguage".as_slice());
-    let home = same_bytes(base, b"homedirectory".as_slice());
-    let shell = same_bytes(base, b"loginshell".as_slice());
-    let component = same_bytes(base, b"dc".as_slice());
-    let gecos = same_bytes(base, b"gecos".as_slice());
-    let user = same_bytes(base, b"uidnumber".as_slice());
-    let group = same_bytes(base, b"gidnumber".as_slice());
-    let posix = or(home, or(shell, or(component, or(gecos, or(user, group)))));
-    or(country, or(display, or(employee, or(language, posix))))
-}
+impl HeldVal for ValFacts {
+    ghost facts = { λ v. v };
 
-fn first_semicolon(name: &[u8]) -> Option<usize>
-    ensures { result ≡ position (λ b. b == 59) name.now }
-{
-    name.iter().position(|b| *b == b';')
-}
+    fn key(&self) -> &Bytes {
+        &self.key
+    }
 
-/// The name without its options.
-fn base_name(name: &[u8]) -> &[u8]
-    ensures { result.now ≡ before_first (λ b. b == 59) name.now }
-{
-    match first_semicolon(name) {
-        Some(at) => &name[..at],
-        None => name,
+    fn spelled(&self) -> &Bytes {
+        &self.spelled
+    }
+
+    fn is_up(&self) -> bool {
+        self.down.is_within(self.up)
+    }
+
+    fn compare_up(&self, other: &ValFacts) -> Ordering {
+        self.up.compare(other.up)
     }
 }
 
-fn is_single(attr: &AttrKey) -> bool
-    ensures { result ≡ is_single attr.now }
+fn attr_shown(alloc: Global, rdn: &Rdn, a: &AttrFacts) -> Result<ValList, NoMemory>
+    ensures { IfOk result (λ vals. vals ≡ vals_shown rdn.now a.now) }
 {
-    is_single_name(base_name(attr.name.as_slice()))
-}
-
-fn is_part(a: &Ava, attr: &AttrKey, key: &Bytes) -> bool
-    ensures { result ≡ (bytes_eq a.now.attr.name attr.now.name && bytes_eq a.now.val.key key.now) }
-{
-    same_bytes(a.attr.name.as_slice(), attr.name.as_slice())
-        && same_bytes(a.val.key.as_slice(), key.as_slice())
-}
-
-/// The name has this value.
-fn is_in_name(rdn: &Rdn, attr: &AttrKey, key: &Bytes) -> bool
-    ensures { result ≡ is_in_name rdn.now attr.now key.now }
-{
-    rdn.avas.as_slice().iter().any(|a| is_part(a, attr, key))
-}
-
-impl ValFacts {
-    /// It is in the name, or was added and not deleted later.
-    fn is_held(&self, rdn: &Rdn, attr: &AttrKey) -> bool
-        ensures { result ≡ is_held rdn.now attr.now self.now }
-    {
-        is_in_name(rdn, attr, &self.key) || self.down.is_within(self.up)
-    }
-
-    /// The later one, and of two with one stamp the one of the greater key.
-    fn is_later(&self, other: &ValFacts) -> bool
-        ensures { result ≡ (csn_lt other.now.up self.now.up || (csn_eq other.now.up self.now.up && is_lt (bytes_cmp other.now.key self.now.key))) }
-    {
-        other.up.is_below(self.up) || (other.up.is(self.up) && other.key.compare(&self.key).is_lt())
-    }
-
-    /// Of two held values of a single-valued type this one shows before the other.
-    fn shows_before(&self, other: &ValFacts, rdn: &Rdn, attr: &AttrKey) -> bool
-        ensures { result ≡ shows_before rdn.now attr.now self.now other.now }
-    {
-        match (
-            is_in_name(rdn, attr, &self.key),
-            is_in_name(rdn, attr, &other.key),
-        ) {
-            (true, false) => true,
-            (false, true) => false,
-            _ => self.is_later(other),
-        }
-    }
-
-    fn is_after(&self, other: &ValFacts, rdn: &Rdn, attr: &AttrKey) -> bool
-        ensures { result ≡ shows_before rdn.now attr.now other.now self.now }
-    {
-        other.shows_before(self, rdn, attr)
-    }
-
-    fn is_after_any(&self, held: &[ValFacts], rdn: &Rdn, attr: &AttrKey) -> bool
-        ensures { result ≡ list_any (λ (w : ValFacts). shows_before rdn.now attr.now w self.now) held.now }
-    {
-        held.iter().any(|other| self.is_after(other, rdn, attr))
-    }
-
-    /// None of these shows before it.
-    #[tactic(auto, unfolding(crate::specs::Seen::shows_first))]
-    fn is_first(&self, held: &[ValFacts], rdn: &Rdn, attr: &AttrKey) -> bool
-        ensures { result ≡ shows_first rdn.now attr.now held.now self.now }
-    {
-        !self.is_after_any(held, rdn, attr)
-    }
-
-    fn val(&self) -> Result<Val, NoMemory>
-        ensures { IfOk result (λ v. v ≡ val_of self.now) }
-    {
-        Ok(Val {
-            key: self.key.copied()?,
-            spelled: self.spelled.copied()?,
-        })
-    }
-}
-
-/// The values that are held.
-#[tactic(auto, using(repl_data::proofs::Loops::filter_more))]
-fn held(
-    alloc: Global,
-    rdn: &Rdn,
-    attr: &AttrKey,
-    vals: &[ValFacts],
-) -> Result<ValFactsList, NoMemory>
-    ensures { IfOk result (λ held. held ≡ filter (is_held rdn.now attr.now) vals.now) }
-{
-    let mut held = Items::new(alloc);
-    for v in vals {
-        push_if(v.is_held(rdn, attr), v, &mut held)?;
-    }
-    Ok(held)
-}
-
-/// The value before which no other shows.
-#[tactic(auto, using(repl_data::proofs::Loops::filter_more))]
-fn best(
-    alloc: Global,
-    rdn: &Rdn,
-    attr: &AttrKey,
-    held: &[ValFacts],
-) -> Result<ValFactsList, NoMemory>
-    ensures { IfOk result (λ best. best ≡ filter (shows_first rdn.now attr.now held.now) held.now) }
-{
-    let mut best = Items::new(alloc);
-    for v in held {
-        push_if(v.is_first(held, rdn, attr), v, &mut best)?;
-    }
-    Ok(best)
-}
-
-#[tactic(auto, using(repl_data::proofs::Loops::map_more))]
-fn vals_of(alloc: Global, facts: &[ValFacts]) -> Result<ValList, NoMemory>
-    ensures { IfOk result (λ vals. vals ≡ map val_of facts.now) }
-{
-    let mut vals = Items::new(alloc);
-    for v in facts {
-        let val = v.val()?;
-        vals.push(val)?;
-    }
+    let vals = vals_shown(alloc, rdn, &a.attr, a.vals.as_slice())?;
     Ok(vals)
-}
-
-/// Of the held values those that show.
-fn chosen(
-    alloc: Global,
-    rdn: &Rdn,
-    attr: &AttrKey,
-    held: ValFactsList,
-) -> Result<ValFactsList, NoMemory>
-    ensures { IfOk result (λ vals. vals ≡ (if is_single attr.now then filter (shows_first rdn.now attr.now held) held else held)) }
-{
-    if is_single(attr) {
-        best(alloc, rdn, attr, held.as_slice())
-    } else {
-        Ok(held)
-    }
-}
-
-/// The values that show: all held ones, and of a single-valued type the first one. Takes quadratic
-/// time for a single-valued type.
-fn vals_shown(
-    alloc: Global,
-    rdn: &Rdn,
-    attr: &AttrKey,
-    vals: &[ValFacts],
-) -> Result<ValList, NoMemory>
-    ensures { IfOk result (λ shown. (whole : Csn) → shown ≡ vals_shown rdn.now (record { attr = attr.now; whole = whole; vals = vals.now })) }
-{
-    let held = held(alloc, rdn, attr, vals)?;
-    let chosen = chosen(alloc, rdn, attr, held)?;
-    let shown = vals_of(alloc, chosen.as_slice())?;
-    Ok(shown)
 }
 
 /// Appends the attribute, unless it has no value.
@@ -236,7 +62,7 @@ fn push_shown(
 ) -> Result<(), NoMemory>
     ensures { OnOk result (users.new ≡ users.old ++ map user (with_values a.now.attr (vals_shown rdn.now a.now))) }
 {
-    let vals = vals_shown(alloc, rdn, &a.attr, a.vals.as_slice())?;
+    let vals = attr_shown(alloc, rdn, a)?;
     push_attr(&a.attr, vals, users)
 }
 

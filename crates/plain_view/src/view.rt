@@ -106,7 +106,7 @@ fn id_of(e: Option<&PresentEntry>) -> Option<Uid>
 }
 
 /// A child, by what orders children.
-#[derive(Debug, Drop)]
+#[derive(Drop)]
 struct Child {
     shown: Rdn,
     id: Uid,
@@ -132,7 +132,7 @@ fn push_child(parent: Uid, e: &PresentEntry, children: &mut Items<Child>) -> Res
     Ok(())
 }
 
-#[tactic(auto, using(crate::proofs::Views::map_filter_more))]
+#[tactic(auto, using(repl_data::proofs::Loops::map_filter_more))]
 fn children_below(
     alloc: Global,
     present: &[PresentEntry],
@@ -216,7 +216,7 @@ fn tombstone_ids(alloc: Global, gone: &[Tombstone]) -> Result<UidList, NoMemory>
 }
 
 /// A present entry as it is listed: its shown relative names from the suffix down, and what shows.
-#[derive(Debug, Drop)]
+#[derive(Drop)]
 struct Listed {
     path: Items<Rdn>,
     shown: ShownEntry,
@@ -254,7 +254,7 @@ impl PlainView {
     /// changes, and time in proportion to the entries times the changes, and to the square of the
     /// present entries and of the values of each entry.
     pub fn of(alloc: Global, suffix: &Suffix, changes: &[Change]) -> Result<PlainView, NoMemory>
-        ensures { IfOk result (λ v. v ≡ view_of suffix.now changes.now) }
+        ensures view { IfOk result (λ v. v ≡ view_of suffix.now changes.now) }
     {
         let facts = all_facts(alloc, suffix, changes)?;
         let present = present_of(alloc, facts.as_slice())?;
@@ -382,7 +382,7 @@ impl PlainView {
     /// The present entries as they show, parents first and siblings in order of shown relative name.
     /// Takes time in proportion to the square of the present entries.
     pub fn dump(&self, alloc: Global) -> Result<ShownEntryList, NoMemory>
-        ensures { IfOk result (λ entries. entries ≡ dump_of self.now) }
+        ensures entries { IfOk result (λ entries. entries ≡ dump_of self.now) }
     {
         let all = self.each_listed(alloc, self.present.as_slice())?;
         let sorted = in_order(alloc, all)?;

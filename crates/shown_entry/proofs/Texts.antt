@@ -4,10 +4,7 @@ use Rattle.std.specs.Prelude.{flat_map, ◌&&◌, ◌==◌}
 use Rattle.std.proofs.lemmas.Bool.Decides.{nat_tests}
 use Rattle.std.proofs.Math.Seq.{drop-cons}
 use Rattle.repl_data.specs.Text.{joined, escaped, escaped_rest}
-
-pub append_nil : {X : Type 0} (ys : List X) → ys ++ [] ≡ ys
-append_nil [] = refl
-append_nil (y ∷ ys) = ap (λ r. y ∷ r) (append_nil ys)
+use Rattle.repl_data.proofs.Loops.{append_nil}
 
 -- the first piece, and each further one behind a separator
 pub joined_first : {X : Type 0} (sep : List ℕ) (text : X → List ℕ) (x : X) (xs : List X) → joined sep (map text (x ∷ xs)) ≡ text x ++ flat_map (λ a. sep ++ text a) xs

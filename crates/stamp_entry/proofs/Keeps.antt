@@ -11,7 +11,8 @@ use Rattle.repl_data.specs.Facts.{AttrFacts, attr_of}
 use Rattle.repl_data.proofs.Orders.{bytes_total}
 use Rattle.repl_data.proofs.InOrder.{put-Rises}
 use Rattle.repl_data.proofs.InOrder as in_order
-use Rattle.stamp_entry.specs.Ordered.{Rises, val_key, attr_name, HasRisingVals, AreOrdered}
+use Rattle.repl_data.specs.Ordered.{Rises}
+use Rattle.stamp_entry.specs.Ordered.{val_key, attr_name, HasRisingVals, AreOrdered}
 use Rattle.stamp_entry.specs.Raised.{raised_val, val_at, raised_attr, attr_at, raised, raised_by}
 
 module _ {X : Type 0} (key : X → List ℕ) where

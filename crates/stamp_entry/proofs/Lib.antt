@@ -1,3 +1,4 @@
+pub mod Shows
 pub mod Places
 pub mod Raising
 pub mod Keeps

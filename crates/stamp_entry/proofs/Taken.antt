@@ -5,9 +5,10 @@ use Rattle.repl_data.specs.declared.change.AttrKey.{AttrKey}
 use Rattle.repl_data.specs.Order.{zero_csn, bytes_cmp, put_by}
 use Rattle.repl_data.specs.Facts.{AttrFacts, attr_of}
 use Rattle.repl_data.specs.Stamps.{Act}
-use Rattle.stamp_entry.specs.Ordered.{IsAt, IsGap, attr_name, AreOrdered}
+use Rattle.repl_data.specs.Ordered.{IsAt, IsGap}
+use Rattle.stamp_entry.specs.Ordered.{attr_name, AreOrdered}
 use Rattle.stamp_entry.specs.Raised.{attr_at, raised_attr, raised}
-use Rattle.stamp_entry.proofs.Places.{get_at, find_gap, put_removed}
+use Rattle.repl_data.proofs.KeyPlaces.{get_at, find_gap, put_removed}
 use Rattle.stamp_entry.proofs.Keeps.{raised-ordered}
 
 abbrev blank : AttrKey → AttrFacts

@@ -13,8 +13,7 @@ ghost use Rattle.stamp_entry.specs.Raised.{facts_after, named_after, parent_afte
 ghost use Rattle.stamp_entry.specs.History.{IsHistory};
 
 use crate::raise::raise_body;
-use crate::sorted::Keyed;
-use repl_data::{AttrKey, Body, Bytes, Change, Csn, Items, NoMemory, Rdn, Suffix, Uid};
+use repl_data::{AttrKey, Body, Bytes, Change, Csn, Items, Keyed, NoMemory, Rdn, Suffix, Uid};
 use std::alloc::Global;
 use std::marker::Model;
 

@@ -12,5 +12,5 @@ ghost use Rattle.stamp_entry.specs.History.{IsHistory};
 /// What one change more makes of what is known of its entry.
 pub fn stamped_laws()
     // Whatever changes came before, and in whatever order.
-    ensures { (suffix : Suffix) (u : Uid) (own : List Change) (c : Change) → IsTrue (is_sound c) → c.target ≡ u → IsHistory u own c → facts_after c (own_facts suffix u own) ≡ own_facts suffix u (own ++ c ∷ []) }
+    ensures next { (suffix : Suffix) (u : Uid) (own : List Change) (c : Change) → IsTrue (is_sound c) → c.target ≡ u → IsHistory u own c → facts_after c (own_facts suffix u own) ≡ own_facts suffix u (own ++ c ∷ []) }
 {}

@@ -3,11 +3,12 @@
 #![tactic(auto)]
 
 mod entry;
+mod held;
 mod laws;
 mod raise;
 mod root;
 mod shown;
-mod sorted;
 
 pub use entry::{StampedAttr, StampedAttrList, StampedEntry, StampedVal, StampedValList};
+pub use held::{HeldVal, vals_shown};
 pub use laws::stamped_laws;

@@ -8,12 +8,15 @@ ghost use Rattle.repl_data.specs.Order.{zero_csn, stamp, put_by, bytes_cmp};
 ghost use Rattle.repl_data.specs.Closed.{is_sound};
 ghost use Rattle.repl_data.specs.Stamps.{Adds, Deletes, Clears, adds, mod_acts, mods_acts, body_acts};
 ghost use Rattle.repl_data.specs.Facts.{AttrFacts};
-ghost use Rattle.stamp_entry.specs.Ordered.{Rises, AreOrdered, HasRisingVals, attr_name, val_key};
+ghost use Rattle.repl_data.specs.Ordered.{Rises};
+ghost use Rattle.stamp_entry.specs.Ordered.{AreOrdered, HasRisingVals, attr_name, val_key};
 ghost use Rattle.stamp_entry.specs.Raised.{raised_val, val_at, raised_attr, attr_at, raised, raised_by};
 
 use crate::entry::{StampedAttr, StampedAttrList, StampedVal, StampedValList, later_of};
-use crate::sorted::{found, place, put, same_bytes};
-use repl_data::{Attr, AttrKey, Ava, Body, Bytes, Change, Csn, Items, Mod, ModKind, NoMemory, Val};
+use repl_data::{
+    Attr, AttrKey, Ava, Body, Bytes, Change, Csn, Items, Mod, ModKind, NoMemory, Val, found_by_key,
+    place_of, put_by_key, same_bytes,
+};
 use std::alloc::Global;
 
 impl StampedVal {
@@ -83,7 +86,7 @@ impl StampedAttr {
         requires { HasRisingVals self.now }
         ensures { IfOk result (λ v. v ≡ val_at key.now self.now) }
     {
-        match found(self.vals.as_slice(), key.as_slice()) {
+        match found_by_key(self.vals.as_slice(), key.as_slice()) {
             Some(val) => Ok(val.clone()?),
             None => Ok(StampedVal {
                 key: key.clone()?,
@@ -99,7 +102,7 @@ impl StampedAttr {
         ensures { OnOk result ((t : AttrKey) → self.new ≡ raised_attr (Adds stamp t val.now) self.old) }
     {
         let raised = self.val_at(alloc, &val.key)?.add(stamp, val)?;
-        put(raised, &mut self.vals)?;
+        put_by_key(raised, &mut self.vals)?;
         Ok(())
     }
 
@@ -108,7 +111,7 @@ impl StampedAttr {
         ensures { OnOk result ((t : AttrKey) → self.new ≡ raised_attr (Deletes stamp t val.now) self.old) }
     {
         let raised = self.val_at(alloc, &val.key)?.delete(stamp, val);
-        put(raised, &mut self.vals)?;
+        put_by_key(raised, &mut self.vals)?;
         Ok(())
     }
 
@@ -146,7 +149,7 @@ pub(crate) fn take(
     ensures rest { OnOk result ((x : AttrFacts) → x.attr.name ≡ attr.now.name → put_by attr_name bytes_cmp x attrs.new ≡ put_by attr_name bytes_cmp x attrs.old) }
     ensures ordered { OnOk result (AreOrdered attrs.new) }
 {
-    match place(attrs.as_slice(), attr.name.as_slice()) {
+    match place_of(attrs.as_slice(), attr.name.as_slice()) {
         Ok(at) => Ok(attrs.remove(at)),
         Err(_) => {
             let blank = blank_attr(alloc, attr)?;
@@ -169,7 +172,7 @@ fn add_value(
 {
     let mut taken = take(alloc, attr, attrs)?;
     taken.add(alloc, stamp, val)?;
-    put(taken, attrs)?;
+    put_by_key(taken, attrs)?;
     Ok(())
 }
 
@@ -187,7 +190,7 @@ fn delete_value(
 {
     let mut taken = take(alloc, attr, attrs)?;
     taken.delete(alloc, stamp, val)?;
-    put(taken, attrs)?;
+    put_by_key(taken, attrs)?;
     Ok(())
 }
 
@@ -204,7 +207,7 @@ fn clear(
 {
     let mut taken = take(alloc, attr, attrs)?;
     taken.clear(alloc, stamp)?;
-    put(taken, attrs)?;
+    put_by_key(taken, attrs)?;
     Ok(())
 }
 

@@ -10,8 +10,7 @@ ghost use Rattle.stamp_entry.specs.First.{first_val, first_attr, given_first, gi
 
 use crate::entry::{StampedAttr, StampedAttrList, StampedEntry, StampedVal};
 use crate::raise::take;
-use crate::sorted::put;
-use repl_data::{AttrKey, Ava, Bytes, Csn, Items, NoMemory, Rdn, Suffix, Uid, Val};
+use repl_data::{AttrKey, Ava, Bytes, Csn, Items, NoMemory, Rdn, Suffix, Uid, Val, put_by_key};
 use std::alloc::Global;
 
 /// A value that an entry has from the start.
@@ -33,7 +32,7 @@ impl StampedAttr {
         ensures { OnOk result (self.new ≡ first_attr val.now self.old) }
     {
         let first = first_val(val)?;
-        put(first, &mut self.vals)?;
+        put_by_key(first, &mut self.vals)?;
         Ok(())
     }
 }
@@ -50,7 +49,7 @@ fn give_value(
 {
     let mut taken = take(alloc, attr, attrs)?;
     taken.give(val)?;
-    put(taken, attrs)?;
+    put_by_key(taken, attrs)?;
     Ok(())
 }
 

@@ -1,7 +1,8 @@
 use Rattle.std.proofs.Common.{◌≡◌, ℕ, ◌+◌, ◌-◌, ◌++◌, take, ap, sym, ◌∙◌, append_assoc, arith}
 use Rattle.std.specs.Prelude.{reverse}
 use Rattle.repl_data.specs.View.{path_among}
-use Rattle.plain_view.proofs.Views.{append_nil, path_more, step_names, step_up}
+use Rattle.repl_data.proofs.Loops.{append_nil}
+use Rattle.plain_view.proofs.Views.{path_more, step_names, step_up}
 use Rattle.plain_view.proofs.view.path_of.Goals as goal
 
 pub loop-left-preserved : goal.loop-left-preserved

@@ -1,8 +1,10 @@
 use Rattle.std.proofs.Common.{sym, ap, subst, ◌∙◌}
 use Rattle.repl_data.specs.Order.{bytes_cmp, put_by}
 use Rattle.repl_data.specs.Facts.{AttrFacts}
-use Rattle.stamp_entry.specs.Ordered.{IsAt, IsGap, attr_name, HasRisingVals, AreOrdered}
-use Rattle.stamp_entry.proofs.Places.{at_key, all_get, AreOrdered-removed}
+use Rattle.repl_data.specs.Ordered.{IsAt, IsGap}
+use Rattle.stamp_entry.specs.Ordered.{attr_name, HasRisingVals, AreOrdered}
+use Rattle.repl_data.proofs.KeyPlaces.{at_key, all_get}
+use Rattle.stamp_entry.proofs.Places.{AreOrdered-removed}
 use Rattle.stamp_entry.proofs.Taken.{taken_at, taken_gap, put_rest}
 use Rattle.stamp_entry.proofs.raise.take.Goals as goal
 

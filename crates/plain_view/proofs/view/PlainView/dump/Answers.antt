@@ -8,8 +8,11 @@ use Rattle.plain_view.proofs.view.PlainView.dump.Goals as goal
 pub returns : goal.returns
 returns c =
     let present = c.as_slice.ensures ∙ (λ i. (c.self.view_is i).present) in
-    c.in_ok-entries.ensures
-    ∙ ap (map (λ (l : Listed). l.shown))
-    (c.as_slice-2.ensures ∙ c.in_ok-sorted.ensures
-    ∙ ap (in_order listed_order) (c.in_ok-all.ensures ∙ ap (map (listed c.args.self.now)) present))
-    ∙ dump_sorted c.args.self.now
+    record {
+      entries =
+          c.in_ok-entries.ensures
+          ∙ ap (map (λ (l : Listed). l.shown))
+          (c.as_slice-2.ensures ∙ c.in_ok-sorted.ensures
+          ∙ ap (in_order listed_order) (c.in_ok-all.ensures ∙ ap (map (listed c.args.self.now)) present))
+          ∙ dump_sorted c.args.self.now;
+    }

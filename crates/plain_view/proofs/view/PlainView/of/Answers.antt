@@ -10,4 +10,4 @@ returns c =
     let gone = c.as_slice-5.ensures ∙ c.in_ok-gone.ensures ∙ ap gone_of (c.as_slice-2.ensures ∙ c.in_ok-facts.ensures) in
     let shown = c.in_ok-present_entries.ensures ∙ (λ i. map (present_entry (present i)) (present i)) in
     let buried = c.in_ok-tombstones.ensures ∙ ap (map tombstone) gone in
-    λ i. record { suffix = c.in_ok-copied.ensures i; present = shown i; gone = buried i }
+    record { view = λ i. record { suffix = c.in_ok-copied.ensures i; present = shown i; gone = buried i } }
