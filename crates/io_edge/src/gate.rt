@@ -57,7 +57,10 @@ impl TestGate {
             }
             yield_now();
         }
-        self.has_run_out.store(true, Ordering::SeqCst);
+        let is_searched = self.is_searched.load(Ordering::SeqCst);
+        if !is_searched {
+            self.has_run_out.store(true, Ordering::SeqCst);
+        }
     }
 }
 

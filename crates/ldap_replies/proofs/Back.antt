@@ -13,7 +13,7 @@ use Rattle.ber_core.specs.Number.{integer, integer_of, shortest_integer}
 use Rattle.ber_core.specs.Reading.{header_at}
 use Rattle.ber_core.proofs.Laws.{header_from_element, header_again, header_takes}
 use Rattle.ber_core.proofs.Written.{IsElement-element, integer_of-shortest_integer}
-use Rattle.ldap_requests.specs.Window.{Stop, Window, Reading, tag_in, tag_here, inside, after, open_here, open_as, octets, int, ended, many_from, many}
+use Rattle.ber_core.specs.Window.{Stop, Window, Reading, tag_in, tag_here, inside, after, open_here, open_as, octets, int, ended, many_from, many}
 use Rattle.ldap_replies.specs.Grammar.{header_bytes, open_exact, exact, exact_optional, exact_int}
 
 -- the window begins with these bytes

@@ -12,7 +12,7 @@ use Rattle.ldap_types.specs.declared.reply.ReplyOp.{ReplyOp}
 use Rattle.ldap_types.specs.declared.reply.ReplyOp.TheVariants as op
 use Rattle.ldap_types.specs.declared.reply.LdapResult.{LdapResult}
 use Rattle.ldap_types.specs.declared.request.RawAttr.{RawAttr}
-use Rattle.ldap_requests.specs.Window.{Stop, Window, Reading, inside, octets, many}
+use Rattle.ber_core.specs.Window.{Stop, Window, Reading, inside, octets, many}
 use Rattle.ldap_replies.specs.Form as form
 use Rattle.ldap_replies.specs.Form.{octet_string, integer, enumerated, partial_attribute, partial_attribute_list, protocol_op, code_number, reply_bytes, IsInRange}
 use Rattle.ldap_replies.specs.Grammar.{exact, exact_optional, text, message_id, result_code, ldap_result, result_inside, attribute_inside, attribute, entry_inside, extended_inside, is_reply_tag, op_inside, operation, reply_inside, reply_at}

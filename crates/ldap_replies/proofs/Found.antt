@@ -11,10 +11,10 @@ use Rattle.ber_core.specs.Element.{IsElement, shortest_length, element}
 use Rattle.ber_core.specs.Number.{IsBytes, integer_of, shortest_integer}
 use Rattle.ber_core.specs.Reading.{header_at}
 use Rattle.ber_core.proofs.Written.{shortest_length-shorter, shortest_integer-shorter}
-use Rattle.ldap_requests.specs.declared.fault.NotLdapWhy.TheVariants as why
-use Rattle.ldap_requests.specs.Window.{Stop, Fault, Window, Reading, ◌>>=◌, refused, inside, after, both, open_here, open_as, octets, many}
-use Rattle.ldap_requests.specs.Spelling.{Nothing, Each, none, next}
-use Rattle.ldap_requests.proofs.Sound.{good, stopped, so, also, ok_so, either, chosen_true, Reads, Covers, Sound, SoundInside, covers_map, opened, as_ok, octets_sound, int_sound, many_sound}
+use Rattle.ber_core.specs.declared.fault.NotLdapWhy.TheVariants as why
+use Rattle.ber_core.specs.Window.{Stop, Fault, Window, Reading, ◌>>=◌, refused, inside, after, both, open_here, open_as, octets, many}
+use Rattle.ber_core.specs.Spelling.{Nothing, Each, none, next}
+use Rattle.ber_core.proofs.Sound.{good, stopped, so, also, ok_so, either, chosen_true, Reads, Covers, Sound, SoundInside, covers_map, opened, as_ok, octets_sound, int_sound, many_sound}
 use Rattle.ldap_replies.specs.Grammar.{header_bytes, open_exact, exact, exact_int}
 
 -- these bytes, where they are bytes at all, are those

@@ -13,13 +13,12 @@ use Rattle.ldap_types.specs.declared.reply.ReplyOp.{ReplyOp}
 use Rattle.ldap_types.specs.declared.reply.ReplyOp.TheVariants as op
 use Rattle.ldap_types.specs.declared.reply.LdapResult.{LdapResult}
 use Rattle.std.specs.Prelude.{IfOk}
-use Rattle.ldap_requests.specs.Cursor.{Gives}
-use Rattle.ldap_requests.specs.declared.fault.ReadFault.{ReadFault}
-use Rattle.ldap_requests.specs.declared.fault.NotLdapWhy.{NotLdapWhy}
-use Rattle.ldap_requests.specs.declared.fault.NotLdapWhy.TheVariants as why
-use Rattle.ldap_requests.specs.Window.{Stop, More, Fault, Window, Reading, ◌>>=◌, tag_here, octets, many}
-use Rattle.ldap_requests.specs.Grammar.{in_range, ranged, outermost}
-use Rattle.ldap_requests.proofs.Sound.{Good, good, stopped, so, also, ok_so, either, value, chosen_true, Covers, Sound, SoundInside, covers_map, ended_sound}
+use Rattle.ber_core.specs.Cursor.{Gives}
+use Rattle.ber_core.specs.declared.fault.ReadFault.{ReadFault}
+use Rattle.ber_core.specs.declared.fault.NotLdapWhy.{NotLdapWhy}
+use Rattle.ber_core.specs.declared.fault.NotLdapWhy.TheVariants as why
+use Rattle.ber_core.specs.Window.{Stop, More, Fault, Window, Reading, ◌>>=◌, tag_here, octets, many, in_range, ranged, outermost}
+use Rattle.ber_core.proofs.Sound.{Good, good, stopped, so, also, ok_so, either, value, chosen_true, Covers, Sound, SoundInside, covers_map, ended_sound}
 use Rattle.ldap_replies.specs.Form as form
 use Rattle.ldap_replies.specs.Form.{octet_string, integer, enumerated, partial_attribute, partial_attribute_list, protocol_op, code_number, reply_bytes, IsInRange}
 use Rattle.ldap_replies.specs.Grammar.{open_exact, exact, exact_optional, text, message_id, in_32_bits, result_code, ldap_result, result_inside, attribute_inside, attribute, entry_inside, extended_inside, is_reply_tag, op_inside, operation, reply_inside, reply_at}

@@ -6,15 +6,14 @@ use Rattle.ldap_types.specs.declared.reply.Reply.{Reply}
 use Rattle.ldap_types.specs.declared.reply.ReplyOp.TheVariants as op
 use Rattle.ber_core.specs.declared.fault.BerWhy.TheVariants as ber_why
 use Rattle.ber_core.specs.Number.{shortest_integer}
-use Rattle.ldap_requests.specs.declared.fault.NotLdapWhy.{NotLdapWhy}
-use Rattle.ldap_requests.specs.declared.fault.NotLdapWhy.TheVariants as why
-use Rattle.ldap_requests.specs.Window.{Stop, More, Fault, Window, ◌>>=◌, refused, octets, many}
-use Rattle.ldap_requests.specs.Grammar.{in_range, ranged, outermost}
-use Rattle.ldap_requests.proofs.Stable.{Keeps, kept, more_yet, at_fault, Grows, Equal, BothGrow, Stays, StaysInside, with_more, self, and_then, choose, tag_stays, open_as_stays, octets_stays, int_stays, ended_stays, many_stays}
+use Rattle.ber_core.specs.declared.fault.NotLdapWhy.{NotLdapWhy}
+use Rattle.ber_core.specs.declared.fault.NotLdapWhy.TheVariants as why
+use Rattle.ber_core.specs.Window.{Stop, More, Fault, Window, ◌>>=◌, refused, octets, many, in_range, ranged, outermost}
+use Rattle.ber_core.proofs.Stable.{Keeps, kept, more_yet, at_fault, Grows, Equal, BothGrow, Stays, StaysInside, with_more, self, and_then, choose, tag_stays, open_as_stays, octets_stays, int_stays, ended_stays, many_stays}
 use Rattle.ldap_replies.specs.Form.{reply_bytes, IsInRange}
 use Rattle.ldap_replies.specs.Grammar.{header_bytes, open_exact, exact, exact_optional, exact_int, text, message_id, in_32_bits, result_code, ldap_result, result_inside, attribute_inside, attribute, entry_inside, extended_inside, is_reply_tag, op_inside, operation, reply_inside, reply_at}
 use Rattle.ldap_replies.specs.Laws.{FrontWantsMore, NoneIsPrefix, StaysAtFault}
-use Rattle.ldap_requests.proofs.Sound.{value}
+use Rattle.ber_core.proofs.Sound.{value}
 use Rattle.ldap_replies.proofs.BackMessage.{reply_back}
 use Rattle.ldap_replies.proofs.FoundMessage.{reply_found}
 

@@ -8,8 +8,8 @@ use Rattle.ber_core.specs.Reading.{header_within, header_at}
 use Rattle.ldap_types.specs.declared.reply.Reply.{Reply}
 use Rattle.ldap_types.specs.declared.reply.ReplyOp.TheVariants as op
 use Rattle.ldap_types.specs.declared.reply.LdapResult.{LdapResult}
-use Rattle.ldap_requests.specs.declared.fault.NotLdapWhy.TheVariants as why
-use Rattle.ldap_requests.specs.Window.{Stop, More, Fault, tag_in, open_here, open_as, octets, int, ended, many_from}
+use Rattle.ber_core.specs.declared.fault.NotLdapWhy.TheVariants as why
+use Rattle.ber_core.specs.Window.{Stop, More, Fault, tag_in, open_here, open_as, octets, int, ended, many_from}
 use Rattle.ldap_replies.specs.Form.{ldap_result, partial_attribute, reply_bytes}
 use Rattle.ldap_replies.specs.Grammar as grammar
 

@@ -8,9 +8,8 @@ use Rattle.ldap_types.specs.declared.reply.ReplyOp.{ReplyOp}
 use Rattle.ldap_types.specs.declared.reply.ReplyOp.TheVariants as op
 use Rattle.ldap_types.specs.declared.reply.LdapResult.{LdapResult}
 use Rattle.ldap_types.specs.declared.request.RawAttr.{RawAttr}
-use Rattle.ldap_requests.specs.declared.fault.NotLdapWhy.TheVariants as why
-use Rattle.ldap_requests.specs.Window.{Stop, Fault, Window, Reading, ◌>>=◌, refused, tag_here, open_as, octets, int, ended, many}
-use Rattle.ldap_requests.specs.Grammar.{in_range, ranged, outermost}
+use Rattle.ber_core.specs.declared.fault.NotLdapWhy.TheVariants as why
+use Rattle.ber_core.specs.Window.{Stop, Fault, Window, Reading, ◌>>=◌, refused, tag_here, open_as, octets, int, ended, many, in_range, ranged, outermost}
 
 -- ---- elements in the writer's form
 

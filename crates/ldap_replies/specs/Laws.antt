@@ -1,8 +1,8 @@
 -- What replies and their bytes are to one another.
 use Rattle.std.specs.Prelude.{◌≡◌, ◌≢◌, ℕ, List, [], ◌++◌, length, Ok, Err}
 use Rattle.ldap_types.specs.declared.reply.Reply.{Reply}
-use Rattle.ldap_requests.specs.declared.fault.NotLdapWhy.{NotLdapWhy}
-use Rattle.ldap_requests.specs.Window.{More, Fault}
+use Rattle.ber_core.specs.declared.fault.NotLdapWhy.{NotLdapWhy}
+use Rattle.ber_core.specs.Window.{More, Fault}
 use Rattle.ldap_replies.specs.Form.{reply_bytes, IsInRange}
 use Rattle.ldap_replies.specs.Grammar.{reply_at}
 

@@ -5,7 +5,7 @@ mod piece;
 mod read;
 mod write;
 
-pub use ldap_requests::{MESSAGE_LIMIT, NotLdapWhy, ReadFault};
-pub use ldap_types::{Bytes, NoMemory, Reply};
+pub use ber_core::{NotLdapWhy, ReadFault};
+pub use ldap_types::{Bytes, MESSAGE_LIMIT, NoMemory, Reply};
 pub use read::{read_reply, reply_laws};
 pub use write::write_reply;

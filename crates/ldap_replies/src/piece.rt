@@ -2,11 +2,11 @@
 
 ghost use Rattle.std.specs.Prelude.{◌≡◌, length};
 ghost use Rattle.ber_core.specs.Number.{drop_zeros, sign_byte, drop_needless, shortest_integer};
-ghost use Rattle.ldap_requests.specs.Cursor.{Gives, pair, window, with_window};
-ghost use Rattle.ldap_requests.specs.Window.{many, octets};
+ghost use Rattle.ber_core.specs.Cursor.{Gives, pair, window, with_window};
+ghost use Rattle.ber_core.specs.Window.{many, octets};
 ghost use Rattle.ldap_replies.specs.Grammar.{header_bytes, open_exact, exact_optional, text, exact_int};
 
-use ldap_requests::{Cursor, NotLdapWhy, ReadFault};
+use ber_core::{Cursor, NotLdapWhy, ReadFault};
 use ldap_types::{Bytes, BytesList};
 use std::alloc::Global;
 

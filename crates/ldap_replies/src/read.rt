@@ -2,17 +2,15 @@
 
 ghost use Rattle.std.specs.Prelude.{◌≡◌, ◌≤◌, ◌++◌, List, ℕ, length, take, IfOk, Ok};
 ghost use Rattle.ldap_types.specs.declared.reply.Reply.{Reply};
-ghost use Rattle.ldap_requests.specs.Cursor.{Gives, pair, window, with_window};
-ghost use Rattle.ldap_requests.specs.Grammar.{outermost};
-ghost use Rattle.ldap_requests.specs.Window.{many};
+ghost use Rattle.ber_core.specs.Cursor.{Gives, pair, window, with_window};
+ghost use Rattle.ber_core.specs.Window.{outermost, many};
 ghost use Rattle.ldap_replies.specs.Form.{reply_bytes, IsInRange};
 ghost use Rattle.ldap_replies.specs.Grammar.{open_exact, message_id, result_code, ldap_result, result_inside, attribute_inside, attribute, entry_inside, extended_inside, is_reply_tag, op_inside, operation, reply_inside, reply_at};
 ghost use Rattle.ldap_replies.specs.Laws.{IsReadBack, FrontWantsMore, NoneIsPrefix, StaysAtFault};
 
 use crate::piece::{exact_int, open_exact, optional_text, text, texts};
-use ber_core::BerWhy;
-use ldap_requests::{Cursor, MESSAGE_LIMIT, NotLdapWhy, ReadFault, ended};
-use ldap_types::{Code, LdapResult, RawAttr, RawAttrList, Reply, ReplyOp};
+use ber_core::{BerWhy, Cursor, NotLdapWhy, ReadFault, ended};
+use ldap_types::{Code, LdapResult, MESSAGE_LIMIT, RawAttr, RawAttrList, Reply, ReplyOp};
 use std::alloc::Global;
 
 #[tactic(auto, unfolding(crate::specs::Grammar::message_id))]

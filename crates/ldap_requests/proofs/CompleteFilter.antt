@@ -7,12 +7,13 @@ use Rattle.ldap_types.specs.declared.request.Filter.{Filter}
 use Rattle.ldap_types.specs.declared.request.Filter.TheViews.{out-Filter, roll-Filter, roll-out-Filter}
 use Rattle.ldap_types.specs.declared.request.Filter.TheOpen.{Filter-F}
 use Rattle.ldap_types.specs.declared.request.Filter.TheVariants as filter
-use Rattle.ldap_requests.specs.Window.{Stop, Window, tag_here, open_here, octets}
+use Rattle.ber_core.specs.Window.{Stop, Window, tag_here, open_here, octets}
 use Rattle.ldap_requests.specs.Grammar.{some_piece, pieces, substrings_inside, is_filter_tag, simple_inside, filter_inside, filter_at}
-use Rattle.ldap_requests.specs.Spelling.{Given, Nothing, Octets, PieceList, IsEmpty, Substrings, OneFilter, IsFilter}
+use Rattle.ldap_requests.specs.Spelling.{PieceList, IsEmpty, Substrings, OneFilter, IsFilter}
+use Rattle.ber_core.specs.Spelling.{Given, Nothing, Octets}
 use Rattle.ldap_requests.proofs.SoundMessage.{PiecesInside, filter_some}
-use Rattle.ldap_requests.proofs.Complete.{Gets, gets, go_on, at_ok, chosen, Is, Holds, cut, Leaves, Full, FullInside, stands, element_full, octets_full, ended_full}
-use Rattle.ldap_requests.proofs.CompleteMany.{many_full, Starts, starts_nothing, starts_each, starts_maybe, optional_full, run_full}
+use Rattle.ber_core.proofs.Complete.{Gets, gets, go_on, at_ok, chosen, Is, Holds, cut, Leaves, Full, FullInside, stands, element_full, octets_full, ended_full}
+use Rattle.ber_core.proofs.CompleteMany.{many_full, Starts, starts_nothing, starts_each, starts_maybe, optional_full, run_full}
 use Rattle.ldap_requests.proofs.CompleteParts.{text_full, assertion_full}
 
 -- ---- the pieces of a substrings filter

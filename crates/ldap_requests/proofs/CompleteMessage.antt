@@ -8,19 +8,20 @@ use Rattle.ldap_types.specs.declared.request.Control.{Control}
 use Rattle.ldap_types.specs.declared.request.Op.{Op}
 use Rattle.ldap_types.specs.declared.request.Op.TheVariants as op
 use Rattle.ldap_types.specs.declared.request.SearchRequest.{SearchRequest}
-use Rattle.ldap_requests.specs.declared.fault.NotLdapWhy.{NotLdapWhy}
-use Rattle.ldap_requests.specs.declared.fault.NotLdapWhy.TheVariants as why
-use Rattle.ldap_requests.specs.declared.fault.ReadFault.{ReadFault}
-use Rattle.ldap_requests.specs.declared.fault.ReadFault.TheVariants as fault
-use Rattle.ldap_requests.specs.Cursor.{Gives}
+use Rattle.ber_core.specs.declared.fault.NotLdapWhy.{NotLdapWhy}
+use Rattle.ber_core.specs.declared.fault.NotLdapWhy.TheVariants as why
+use Rattle.ber_core.specs.declared.fault.ReadFault.{ReadFault}
+use Rattle.ber_core.specs.declared.fault.ReadFault.TheVariants as fault
+use Rattle.ber_core.specs.Cursor.{Gives}
 use Rattle.ldap_requests.specs.Laws.{OneRequest, NoSpellingIsPrefix, HasNoRequest, BeginsNoRequest}
-use Rattle.ldap_requests.specs.Window.{Stop, Fault, More, Window, ◌>>=◌, tag_here, open_here, open_as, octets, int, boolean, refused, many}
-use Rattle.ldap_requests.specs.Grammar.{text, count, message_id, search_inside, is_op_tag, op_inside, operation, control_inside, control, request_inside, outermost, request_at}
-use Rattle.ldap_requests.specs.Spelling.{Each, Unknown, Octets, Integer, Boolean, Count, MessageId, Text, Search, IsOp, IsControl, Spells}
-use Rattle.ldap_requests.proofs.Sound.{element_some}
+use Rattle.ber_core.specs.Window.{Stop, Fault, More, Window, ◌>>=◌, tag_here, open_here, open_as, octets, int, boolean, refused, many, outermost}
+use Rattle.ldap_requests.specs.Grammar.{text, count, message_id, search_inside, is_op_tag, op_inside, operation, control_inside, control, request_inside, request_at}
+use Rattle.ldap_requests.specs.Spelling.{Count, MessageId, Text, Search, IsOp, IsControl, Spells}
+use Rattle.ber_core.specs.Spelling.{Each, Unknown, Octets, Integer, Boolean}
+use Rattle.ber_core.proofs.Sound.{element_some}
 use Rattle.ldap_requests.proofs.SoundMessage.{ControlContent, MessageContent}
-use Rattle.ldap_requests.proofs.Complete.{Gets, gets, go_on, at_ok, Is, value_is, Holds, cut, Leaves, Full, FullInside, stands, opens, element_full, octets_full, int_full, boolean_full, skip_full}
-use Rattle.ldap_requests.proofs.CompleteMany.{many_full, starts_unknown, starts_maybe, optional_full}
+use Rattle.ber_core.proofs.Complete.{Gets, gets, go_on, at_ok, Is, value_is, Holds, cut, Leaves, Full, FullInside, stands, opens, element_full, octets_full, int_full, boolean_full, skip_full}
+use Rattle.ber_core.proofs.CompleteMany.{many_full, starts_unknown, starts_maybe, optional_full}
 use Rattle.ldap_requests.proofs.CompleteParts.{text_full, texts_full, count_full, message_id_full, bind_full, unbind_full, delete_full, abandon_full, add_full, modify_full, rename_full, compare_full, extended_full}
 use Rattle.ldap_requests.proofs.CompleteFilter.{filter_full}
 use Rattle.ldap_requests.proofs.StableMessage.{fault_once}

@@ -7,14 +7,15 @@ use Rattle.ldap_types.specs.declared.request.BindRequest.{BindRequest}
 use Rattle.ldap_types.specs.declared.request.Auth.TheVariants.{Simple, Sasl}
 use Rattle.ldap_types.specs.declared.request.RawAttr.{RawAttr}
 use Rattle.ldap_types.specs.declared.request.RawMod.{RawMod}
-use Rattle.ldap_requests.specs.declared.fault.NotLdapWhy.{NotLdapWhy}
-use Rattle.ldap_requests.specs.declared.fault.NotLdapWhy.TheVariants as why
-use Rattle.ldap_requests.specs.Window.{Window, tag_here, octets, int, boolean, many}
-use Rattle.ldap_requests.specs.Grammar.{text, in_range, ranged, count, message_id, attribute_inside, attribute, assertion, sasl, auth, bind_inside, unbind_inside, delete_inside, abandon_inside, add_inside, modification_inside, modification, modify_inside, rename_inside, compare_inside, extended_inside}
-use Rattle.ldap_requests.specs.Spelling.{no_value, Element, Then, ThenMaybe, Nothing, Each, Unknown, Octets, Integer, Boolean, Count, MessageId, Text, Attribute, Assertion, SaslCredentials, Authentication, Bind, Modification}
-use Rattle.ldap_requests.proofs.Sound.{element_some}
-use Rattle.ldap_requests.proofs.Complete.{Gets, gets, go_on, every, at_ok, chosen, Is, Holds, cut, Full, FullInside, at_end, stands, element_full, octets_full, int_full, boolean_full, ended_full, skip_full}
-use Rattle.ldap_requests.proofs.CompleteMany.{many_full, starts_nothing, starts_unknown, optional_full}
+use Rattle.ber_core.specs.declared.fault.NotLdapWhy.{NotLdapWhy}
+use Rattle.ber_core.specs.declared.fault.NotLdapWhy.TheVariants as why
+use Rattle.ber_core.specs.Window.{Window, tag_here, octets, int, boolean, many, in_range, ranged}
+use Rattle.ldap_requests.specs.Grammar.{text, count, message_id, attribute_inside, attribute, assertion, sasl, auth, bind_inside, unbind_inside, delete_inside, abandon_inside, add_inside, modification_inside, modification, modify_inside, rename_inside, compare_inside, extended_inside}
+use Rattle.ldap_requests.specs.Spelling.{Count, MessageId, Text, Attribute, Assertion, SaslCredentials, Authentication, Bind, Modification}
+use Rattle.ber_core.specs.Spelling.{no_value, Element, Then, ThenMaybe, Nothing, Each, Unknown, Octets, Integer, Boolean}
+use Rattle.ber_core.proofs.Sound.{element_some}
+use Rattle.ber_core.proofs.Complete.{Gets, gets, go_on, every, at_ok, chosen, Is, Holds, cut, Full, FullInside, at_end, stands, element_full, octets_full, int_full, boolean_full, ended_full, skip_full}
+use Rattle.ber_core.proofs.CompleteMany.{many_full, starts_nothing, starts_unknown, optional_full}
 
 -- ---- leaves
 

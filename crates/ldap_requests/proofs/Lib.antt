@@ -1,10 +1,5 @@
-pub mod Loops
-pub mod Stable
 pub mod StableMessage
-pub mod Sound
 pub mod SoundMessage
-pub mod Complete
-pub mod CompleteMany
 pub mod CompleteParts
 pub mod CompleteFilter
 pub mod CompleteMessage

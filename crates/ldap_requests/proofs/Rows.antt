@@ -7,11 +7,11 @@ use Rattle.ber_core.specs.declared.fault.BerWhy.TheVariants as ber_why
 use Rattle.ldap_types.specs.declared.request.Request.{Request}
 use Rattle.ldap_types.specs.declared.request.Op.TheVariants as op
 use Rattle.ldap_types.specs.declared.request.Filter.TheVariants as filter
-use Rattle.ldap_requests.specs.declared.fault.NotLdapWhy.TheVariants as why
-use Rattle.ldap_requests.specs.Window.{Fault, More, tag_in, open_here, open_as, octets, int, boolean, element, skip_one, skip_from, ended, many_from, optional, run_from}
+use Rattle.ber_core.specs.declared.fault.NotLdapWhy.TheVariants as why
+use Rattle.ber_core.specs.Window.{Fault, More, tag_in, open_here, open_as, octets, int, boolean, element, skip_one, skip_from, ended, many_from, optional, run_from}
 use Rattle.ldap_requests.specs.Grammar.{count, message_id, unbind_inside, delete_inside, pieces, substrings_inside, simple_inside, filter_inside, filter_at, search_inside, op_inside, operation, control_inside, request_inside, request_at}
 use Rattle.ldap_requests.specs.Spelling.{Spells}
-use Rattle.ldap_requests.proofs.Sound.{value}
+use Rattle.ber_core.proofs.Sound.{value}
 use Rattle.ldap_requests.proofs.SoundMessage.{request_sound}
 
 -- what is read as a whole is a spelling

@@ -19,14 +19,15 @@ use Rattle.ldap_types.specs.declared.request.RawAttr.{RawAttr}
 use Rattle.ldap_types.specs.declared.request.RawMod.{RawMod}
 use Rattle.ldap_types.specs.declared.request.Filter.TheVariants as filter
 use Rattle.std.specs.Prelude.{IfOk}
-use Rattle.ldap_requests.specs.Cursor.{Gives}
-use Rattle.ldap_requests.specs.declared.fault.ReadFault.{ReadFault}
-use Rattle.ldap_requests.specs.declared.fault.NotLdapWhy.{NotLdapWhy}
-use Rattle.ldap_requests.specs.declared.fault.NotLdapWhy.TheVariants as why
-use Rattle.ldap_requests.specs.Window.{Stop, Fault, More, Window, Reading, tag_here, open_here, open_as, octets, int, boolean, many}
-use Rattle.ldap_requests.specs.Grammar.{text, in_range, ranged, count, message_id, attribute_inside, attribute, assertion, sasl, auth, bind_inside, unbind_inside, delete_inside, abandon_inside, add_inside, modification_inside, modification, modify_inside, rename_inside, compare_inside, extended_inside, some_piece, pieces, substrings_inside, is_filter_tag, simple_inside, filter_inside, filter_at, search_inside, is_op_tag, op_inside, operation, control_inside, control, request_inside, outermost, request_at}
-use Rattle.ldap_requests.specs.Spelling.{no_value, Element, Then, ThenMaybe, Nothing, Each, Unknown, Octets, Integer, Boolean, Count, MessageId, Text, Attribute, Assertion, SaslCredentials, Authentication, Modification, PieceList, IsEmpty, Pieces, Substrings, Whatever, OneFilter, IsFilter, IsOp, IsControl, Spells}
-use Rattle.ldap_requests.proofs.Sound.{Good, good, stopped, so, also, ok_so, either, value, chosen_true, Reads, Covers, Sound, SoundInside, covers_map, before, before_maybe, opened, as_ok, element_sound, octets_sound, int_sound, boolean_sound, ended_sound, skip_sound, many_sound, inside_some, optional_sound, run_sound}
+use Rattle.ber_core.specs.Cursor.{Gives}
+use Rattle.ber_core.specs.declared.fault.ReadFault.{ReadFault}
+use Rattle.ber_core.specs.declared.fault.NotLdapWhy.{NotLdapWhy}
+use Rattle.ber_core.specs.declared.fault.NotLdapWhy.TheVariants as why
+use Rattle.ber_core.specs.Window.{Stop, Fault, More, Window, Reading, tag_here, open_here, open_as, octets, int, boolean, many, in_range, ranged, outermost}
+use Rattle.ldap_requests.specs.Grammar.{text, count, message_id, attribute_inside, attribute, assertion, sasl, auth, bind_inside, unbind_inside, delete_inside, abandon_inside, add_inside, modification_inside, modification, modify_inside, rename_inside, compare_inside, extended_inside, some_piece, pieces, substrings_inside, is_filter_tag, simple_inside, filter_inside, filter_at, search_inside, is_op_tag, op_inside, operation, control_inside, control, request_inside, request_at}
+use Rattle.ldap_requests.specs.Spelling.{Count, MessageId, Text, Attribute, Assertion, SaslCredentials, Authentication, Modification, PieceList, IsEmpty, Pieces, Substrings, Whatever, OneFilter, IsFilter, IsOp, IsControl, Spells}
+use Rattle.ber_core.specs.Spelling.{no_value, Element, Then, ThenMaybe, Nothing, Each, Unknown, Octets, Integer, Boolean}
+use Rattle.ber_core.proofs.Sound.{Good, good, stopped, so, also, ok_so, either, value, chosen_true, Reads, Covers, Sound, SoundInside, covers_map, before, before_maybe, opened, as_ok, element_sound, octets_sound, int_sound, boolean_sound, ended_sound, skip_sound, many_sound, inside_some, optional_sound, run_sound}
 
 text_sound : Sound text Text
 text_sound = element_sound 0x04 octets Octets octets_sound

@@ -7,12 +7,12 @@ use Rattle.ldap_types.specs.declared.request.Op.TheVariants as op
 use Rattle.ldap_types.specs.declared.request.Auth.TheVariants.{Simple, Sasl}
 use Rattle.ldap_types.specs.declared.request.Filter.{Filter}
 use Rattle.ldap_types.specs.declared.request.Filter.TheVariants as filter
-use Rattle.ldap_requests.specs.declared.fault.NotLdapWhy.{NotLdapWhy}
-use Rattle.ldap_requests.specs.declared.fault.NotLdapWhy.TheVariants as why
-use Rattle.ldap_requests.specs.Window.{Stop, Fault, Window, Reading, ◌>>=◌, octets, int, boolean, many}
-use Rattle.ldap_requests.specs.Grammar.{text, in_range, ranged, count, message_id, attribute_inside, attribute, assertion, sasl, auth, bind_inside, unbind_inside, delete_inside, abandon_inside, add_inside, modification_inside, modification, modify_inside, rename_inside, compare_inside, extended_inside, some_piece, pieces, substrings_inside, is_filter_tag, simple_inside, filter_inside, filter_at, search_inside, is_op_tag, op_inside, operation, control_inside, control, request_inside, outermost, request_at}
+use Rattle.ber_core.specs.declared.fault.NotLdapWhy.{NotLdapWhy}
+use Rattle.ber_core.specs.declared.fault.NotLdapWhy.TheVariants as why
+use Rattle.ber_core.specs.Window.{Stop, Fault, Window, Reading, ◌>>=◌, octets, int, boolean, many, in_range, ranged, outermost}
+use Rattle.ldap_requests.specs.Grammar.{text, count, message_id, attribute_inside, attribute, assertion, sasl, auth, bind_inside, unbind_inside, delete_inside, abandon_inside, add_inside, modification_inside, modification, modify_inside, rename_inside, compare_inside, extended_inside, some_piece, pieces, substrings_inside, is_filter_tag, simple_inside, filter_inside, filter_at, search_inside, is_op_tag, op_inside, operation, control_inside, control, request_inside, request_at}
 use Rattle.ldap_requests.specs.Laws.{StaysRead, StaysAtFault, NoneIsPrefix}
-use Rattle.ldap_requests.proofs.Stable.{Keeps, kept, more_yet, at_fault, with_more, Grows, Equal, Stays, StaysInside, self, and_then, choose, tag_stays, open_stays, refused_stays, open_as_stays, elements_stay, element_stays, octets_stays, int_stays, boolean_stays, skip_stays, ended_stays, many_stays, optional_stays, run_stays}
+use Rattle.ber_core.proofs.Stable.{Keeps, kept, more_yet, at_fault, with_more, Grows, Equal, Stays, StaysInside, self, and_then, choose, tag_stays, open_stays, refused_stays, open_as_stays, elements_stay, element_stays, octets_stays, int_stays, boolean_stays, skip_stays, ended_stays, many_stays, optional_stays, run_stays}
 
 -- a value read by an inner reader, as the answer
 only : {A B : Type 0} {r s : Result A Stop} (f : A → B) → Keeps Equal r s → Keeps Equal (r >>= λ x. Ok (f x)) (s >>= λ x. Ok (f x))

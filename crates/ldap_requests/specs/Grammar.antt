@@ -1,5 +1,5 @@
 -- Requests, read element by element from the front (RFC 4511, section 4).
-use Rattle.std.specs.Prelude.{ℕ, zero, suc, ℤ, pos, negsuc, ◌==◌, ◌||◌, ◌&&◌, nat_lt, nat_le, List, [], Option, Some, None, Bool, false, unwrap_or, Result, Ok, Err, if◌then◌else◌}
+use Rattle.std.specs.Prelude.{ℕ, zero, suc, ◌==◌, ◌||◌, ◌&&◌, nat_le, List, [], None, Bool, false, unwrap_or, Result, Ok, Err, if◌then◌else◌}
 use Rattle.ldap_types.specs.declared.request.Request.{Request}
 use Rattle.ldap_types.specs.declared.request.Control.{Control}
 use Rattle.ldap_types.specs.declared.request.Op.{Op}
@@ -10,24 +10,13 @@ use Rattle.ldap_types.specs.declared.request.Filter.{Filter}
 use Rattle.ldap_types.specs.declared.request.Filter.TheVariants as filter
 use Rattle.ldap_types.specs.declared.request.RawAttr.{RawAttr}
 use Rattle.ldap_types.specs.declared.request.RawMod.{RawMod}
-use Rattle.ber_core.specs.declared.fault.BerWhy.TheVariants as ber_why
-use Rattle.ldap_requests.specs.declared.fault.NotLdapWhy.{NotLdapWhy}
-use Rattle.ldap_requests.specs.declared.fault.NotLdapWhy.TheVariants as why
-use Rattle.ldap_requests.specs.Window.{Stop, More, Fault, Window, Reading, ◌>>=◌, refused, tag_here, open_here, open_as, octets, int, boolean, element, skip, ended, many, run, optional}
+use Rattle.ber_core.specs.declared.fault.NotLdapWhy.TheVariants as why
+use Rattle.ber_core.specs.Window.{Stop, Fault, Window, Reading, ◌>>=◌, refused, tag_here, open_here, open_as, octets, int, boolean, element, skip, ended, many, run, optional, in_range, ranged, outermost}
 
 -- ---- leaves in their ranges
 
 abbrev pub text : Window → Reading (List ℕ)
 text = element 0x04 octets
-
--- a number from `least` to 2147483647
-abbrev pub in_range : ℕ → ℤ → Option ℕ
-in_range least (pos n) = if nat_lt n least || nat_lt 2147483647 n then None else Some n
-in_range least (negsuc n) = None
-
-abbrev pub ranged : NotLdapWhy → ℕ → Option ℕ → Result ℕ Stop
-ranged w at (Some n) = Ok n
-ranged w at None = Err (Fault at w)
 
 unfoldable pub count : Window → Result ℕ Stop
 count w = int w >>= λ z. ranged why.Shape w.start (in_range 0 z)
@@ -254,13 +243,6 @@ request_inside w = do
   controls ← optional 0xa0 (many control) op.1
   rest ← skip controls.1
   Ok (record { id = id.0; op = op.0; controls = unwrap_or controls.0 [] })
-
--- a message that passes the limit has a why of its own
-abbrev pub outermost : {A : Type 0} → Result A Stop → Result A Stop
-outermost (Ok x) = Ok x
-outermost (Err More) = Err More
-outermost (Err (Fault p (why.Ber ber_why.TooLarge))) = Err (Fault p why.TooLarge)
-outermost (Err (Fault p w)) = Err (Fault p w)
 
 -- The request at the front of the bytes, and how many bytes it has; or More; or the first fault.
 unfoldable pub request_at : ℕ → List ℕ → Result (Request × ℕ) Stop

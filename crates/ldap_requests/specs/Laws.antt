@@ -1,8 +1,8 @@
 -- What holds of the reading of requests and of their spellings, whatever bytes follow.
 use Rattle.std.specs.Prelude.{◌≡◌, ℕ, ◌≤◌, List, [], ◌++◌, length, Ok, Err}
 use Rattle.ldap_types.specs.declared.request.Request.{Request}
-use Rattle.ldap_requests.specs.declared.fault.NotLdapWhy.{NotLdapWhy}
-use Rattle.ldap_requests.specs.Window.{Fault}
+use Rattle.ber_core.specs.declared.fault.NotLdapWhy.{NotLdapWhy}
+use Rattle.ber_core.specs.Window.{Fault}
 use Rattle.ldap_requests.specs.Grammar.{request_at}
 use Rattle.ldap_requests.specs.Spelling.{Spells}
 

@@ -1,13 +1,13 @@
 //! Filters of searches.
 
 ghost use Rattle.std.specs.Prelude.{◌≡◌};
-ghost use Rattle.ldap_requests.specs.Cursor.{Gives, window, with_window};
-ghost use Rattle.ldap_requests.specs.Grammar.{pieces, substrings_inside, simple_inside, filter_inside, filter_at, is_filter_tag};
-ghost use Rattle.ldap_requests.specs.Window.{run, many, octets};
+ghost use Rattle.ldap_types.specs.declared.request.Filter.TheVariants as filter;
+ghost use Rattle.ber_core.specs.Cursor.{Gives, window, with_window};
+ghost use Rattle.ldap_requests.specs.Grammar.{some_piece, pieces, substrings_inside, simple_inside, filter_inside, filter_at, is_filter_tag};
+ghost use Rattle.ber_core.specs.Window.{run, many, octets};
 
-use crate::cursor::Cursor;
-use crate::fault::{NotLdapWhy, ReadFault};
-use crate::parts::{assertion, ended, optional_text, text};
+use crate::parts::assertion;
+use ber_core::{Cursor, NotLdapWhy, ReadFault, ended, optional_text, text};
 use ldap_types::{Boxed, Bytes, BytesList, Filter, FilterList};
 use std::alloc::Global;
 
@@ -36,17 +36,19 @@ fn run(alloc: Global, tag: u8, w: Cursor) -> Result<(BytesList, Cursor), ReadFau
     Ok((all, here))
 }
 
-#[tactic(auto, unfolding(crate::specs::Grammar::pieces))]
-fn pieces(alloc: Global, name: Bytes, w: Cursor) -> Result<Filter, ReadFault>
-    ensures { Gives (λ f. f) result (pieces name (window w.entry)) }
+/// The filter of these pieces, of which there is one at least.
+fn some_piece(
+    start: usize,
+    name: Bytes,
+    first: Option<Bytes>,
+    middle: BytesList,
+    last: Option<Bytes>,
+) -> Result<Filter, ReadFault>
+    ensures { Gives (λ f. f) result (some_piece start (filter.Substrings name first middle last)) }
 {
-    let (first, rest) = optional_text(alloc, 0x80, w)?;
-    let (middle, rest) = run(alloc, 0x81, rest)?;
-    let (last, rest) = optional_text(alloc, 0x82, rest)?;
-    ended(rest)?;
     if first.is_none() && middle.is_empty() && last.is_none() {
         return Err(ReadFault::NotLdap {
-            place: w.start,
+            place: start,
             why: NotLdapWhy::Shape,
         });
     }
@@ -58,7 +60,18 @@ fn pieces(alloc: Global, name: Bytes, w: Cursor) -> Result<Filter, ReadFault>
     })
 }
 
-#[tactic(auto, unfolding(crate::specs::Grammar::substrings_inside, crate::specs::Window::element))]
+#[tactic(auto, unfolding(crate::specs::Grammar::pieces))]
+fn pieces(alloc: Global, name: Bytes, w: Cursor) -> Result<Filter, ReadFault>
+    ensures { Gives (λ f. f) result (pieces name (window w.entry)) }
+{
+    let (first, rest) = optional_text(alloc, 0x80, w)?;
+    let (middle, rest) = run(alloc, 0x81, rest)?;
+    let (last, rest) = optional_text(alloc, 0x82, rest)?;
+    ended(rest)?;
+    some_piece(w.start, name, first, middle, last)
+}
+
+#[tactic(auto, unfolding(crate::specs::Grammar::substrings_inside, ber_core::specs::Window::element))]
 fn substrings_inside(alloc: Global, w: Cursor) -> Result<Filter, ReadFault>
     ensures { Gives (λ f. f) result (substrings_inside (window w.entry)) }
 {

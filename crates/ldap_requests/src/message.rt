@@ -1,22 +1,17 @@
 //! A whole message: its id, its operation, its controls.
 
 ghost use Rattle.std.specs.Prelude.{◌≡◌, ◌≤◌, ◌⊎◌, ◌++◌, List, ℕ, Ok, Err, length, take, IfOk};
-ghost use Rattle.ldap_requests.specs.Cursor.{Gives, pair, window, with_window};
-ghost use Rattle.ldap_requests.specs.Grammar.{message_id, control_inside, control, request_inside, request_at, outermost};
+ghost use Rattle.ber_core.specs.Cursor.{Gives, pair, window, with_window};
+ghost use Rattle.ldap_requests.specs.Grammar.{message_id, control_inside, control, request_inside, request_at};
+ghost use Rattle.ber_core.specs.Window.{outermost, open_as, many, optional};
 ghost use Rattle.ldap_requests.specs.Laws.{StaysRead, StaysAtFault, NoneIsPrefix, EverySpellingIsRead, OneRequest, NoSpellingIsPrefix, HasNoRequest, BeginsNoRequest};
 ghost use Rattle.ldap_requests.specs.Spelling.{Spells};
-ghost use Rattle.ldap_requests.specs.Window.{open_as, many, optional};
 
-use crate::cursor::Cursor;
-use crate::fault::{NotLdapWhy, ReadFault};
 use crate::operation::operation;
-use crate::parts::{optional_boolean, optional_text, skip, text};
-use ber_core::BerWhy;
-use ldap_types::{Control, ControlList, Request};
+use crate::parts::{optional_boolean, skip};
+use ber_core::{BerWhy, Cursor, NotLdapWhy, ReadFault, optional_text, text};
+use ldap_types::{Control, ControlList, MESSAGE_LIMIT, Request};
 use std::alloc::Global;
-
-/// How many bytes a message has at most.
-pub const MESSAGE_LIMIT: usize = 2_097_152;
 
 /// The id of a message that is the content, from 1 to 2147483647 (RFC 4511, section 4.1.1.1).
 #[tactic(auto, unfolding(crate::specs::Grammar::message_id))]
@@ -48,7 +43,7 @@ fn control_inside(alloc: Global, w: Cursor) -> Result<Control, ReadFault>
     })
 }
 
-#[tactic(auto, unfolding(crate::specs::Window::element))]
+#[tactic(auto, unfolding(ber_core::specs::Window::element))]
 fn control(alloc: Global, w: Cursor) -> Result<(Control, Cursor), ReadFault>
     ensures { Gives with_window result (control (window w.entry)) }
 {
@@ -72,7 +67,7 @@ fn controls(alloc: Global, w: Cursor) -> Result<ControlList, ReadFault>
     Ok(all)
 }
 
-#[tactic(auto, unfolding(crate::specs::Window::optional, crate::specs::Window::element))]
+#[tactic(auto, unfolding(ber_core::specs::Window::optional, ber_core::specs::Window::element))]
 fn optional_controls(alloc: Global, w: Cursor) -> Result<(Option<ControlList>, Cursor), ReadFault>
     ensures { Gives with_window result (optional 0xa0 (many control) (window w.entry)) }
 {
@@ -86,7 +81,7 @@ fn optional_controls(alloc: Global, w: Cursor) -> Result<(Option<ControlList>, C
     Ok((Some(controls(alloc, inside)?), rest))
 }
 
-#[tactic(auto, unfolding(crate::specs::Grammar::request_inside, crate::specs::Window::element))]
+#[tactic(auto, unfolding(crate::specs::Grammar::request_inside, ber_core::specs::Window::element))]
 fn request_inside(alloc: Global, w: Cursor) -> Result<Request, ReadFault>
     ensures { Gives (λ r. r) result (request_inside (window w.entry)) }
 {

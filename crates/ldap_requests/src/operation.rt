@@ -1,17 +1,14 @@
 //! The operations, one function each.
 
 ghost use Rattle.std.specs.Prelude.{◌≡◌};
-ghost use Rattle.ldap_requests.specs.Cursor.{Gives, window, with_window};
-ghost use Rattle.ldap_requests.specs.Grammar.{auth, sasl, bind_inside, unbind_inside, delete_inside, abandon_inside, add_inside, search_inside, modification_inside, modification, modify_inside, rename_inside, compare_inside, extended_inside, is_op_tag, op_inside, operation};
-ghost use Rattle.ldap_requests.specs.Window.{many};
+ghost use Rattle.ber_core.specs.Cursor.{Gives, window, with_window};
+ghost use Rattle.ldap_requests.specs.Grammar.{text, count, auth, sasl, bind_inside, unbind_inside, delete_inside, abandon_inside, add_inside, search_inside, modification_inside, modification, modify_inside, rename_inside, compare_inside, extended_inside, is_op_tag, op_inside, operation};
+ghost use Rattle.ber_core.specs.Window.{element, many};
 
-use crate::cursor::Cursor;
-use crate::fault::{NotLdapWhy, ReadFault};
 use crate::filter::{FILTER_DEPTH, filter};
-use crate::parts::{
-    assertion, attribute, attributes, count, ended, optional_text, skip, text, texts,
-};
-use ldap_types::{Auth, BindRequest, Bytes, Op, RawMod, RawModList, SearchRequest};
+use crate::parts::{assertion, attribute, attributes, count, skip, texts};
+use ber_core::{Cursor, NotLdapWhy, ReadFault, ended, optional_text, text};
+use ldap_types::{Auth, BindRequest, Bytes, BytesList, Op, RawMod, RawModList, SearchRequest};
 use std::alloc::Global;
 
 #[tactic(auto, unfolding(crate::specs::Grammar::sasl))]
@@ -23,7 +20,7 @@ fn sasl(alloc: Global, w: Cursor) -> Result<(), ReadFault>
     ended(rest)
 }
 
-#[tactic(auto, unfolding(crate::specs::Grammar::auth, crate::specs::Window::element))]
+#[tactic(auto, unfolding(crate::specs::Grammar::auth, ber_core::specs::Window::element))]
 fn simple(alloc: Global, w: Cursor) -> Result<(Auth, Cursor), ReadFault>
     ensures { Gives with_window result (auth (window w.entry)) }
 {
@@ -44,15 +41,15 @@ fn simple(alloc: Global, w: Cursor) -> Result<(Auth, Cursor), ReadFault>
     }
 }
 
-#[tactic(auto, unfolding(crate::specs::Grammar::bind_inside, crate::specs::Window::element))]
+#[tactic(auto, unfolding(crate::specs::Grammar::bind_inside))]
 fn bind_inside(alloc: Global, w: Cursor) -> Result<Op, ReadFault>
     ensures { Gives (λ o. o) result (bind_inside (window w.entry)) }
 {
-    let (inside, rest) = w.open_as(0x02)?;
-    let version = inside.int()?;
-    let (name, rest) = text(alloc, rest)?;
+    let (version, rest) = w.int_as(0x02)?;
+    let (name, rest) = rest.octets_as(0x04)?;
     let (auth, rest) = simple(alloc, rest)?;
     skip(rest)?;
+    let name = Bytes::from_slice(alloc, name)?;
     Ok(Op::Bind(BindRequest {
         version,
         name,
@@ -74,25 +71,38 @@ fn unbind_inside(w: Cursor) -> Result<Op, ReadFault>
     }
 }
 
-#[tactic(auto, unfolding(crate::specs::Grammar::search_inside, crate::specs::Window::element))]
+/// The most entries, or the most seconds, that a search is to take (RFC 4511, section 4.5.1).
+#[tactic(auto, unfolding(ber_core::specs::Window::element))]
+fn limit(w: Cursor<'_>) -> Result<(u32, Cursor<'_>), ReadFault>
+    ensures { Gives with_window result (element 0x02 count (window w.entry)) }
+{
+    let (inside, rest) = w.open_as(0x02)?;
+    Ok((count(inside)?, rest))
+}
+
+/// The attributes that a search asks for (RFC 4511, section 4.5.1.8).
+#[tactic(auto, unfolding(ber_core::specs::Window::element))]
+fn selection(alloc: Global, w: Cursor<'_>) -> Result<(BytesList, Cursor<'_>), ReadFault>
+    ensures { Gives with_window result (element 0x30 (many text) (window w.entry)) }
+{
+    let (inside, rest) = w.open_as(0x30)?;
+    Ok((texts(alloc, inside)?, rest))
+}
+
+#[tactic(auto, unfolding(crate::specs::Grammar::search_inside))]
 fn search_inside(alloc: Global, w: Cursor) -> Result<Op, ReadFault>
     ensures { Gives (λ o. o) result (search_inside (window w.entry)) }
 {
-    let (base, rest) = text(alloc, w)?;
-    let (inside, rest) = rest.open_as(0x0a)?;
-    let scope = inside.int()?;
-    let (inside, rest) = rest.open_as(0x0a)?;
-    let deref = inside.int()?;
-    let (inside, rest) = rest.open_as(0x02)?;
-    let size_limit = count(inside)?;
-    let (inside, rest) = rest.open_as(0x02)?;
-    let time_limit = count(inside)?;
-    let (inside, rest) = rest.open_as(0x01)?;
-    let types_only = inside.boolean()?;
+    let (base, rest) = w.octets_as(0x04)?;
+    let (scope, rest) = rest.int_as(0x0a)?;
+    let (deref, rest) = rest.int_as(0x0a)?;
+    let (size_limit, rest) = limit(rest)?;
+    let (time_limit, rest) = limit(rest)?;
+    let (types_only, rest) = rest.boolean_here()?;
     let (filter, rest) = filter(alloc, FILTER_DEPTH, rest)?;
-    let (inside, rest) = rest.open_as(0x30)?;
-    let attrs = texts(alloc, inside)?;
+    let (attrs, rest) = selection(alloc, rest)?;
     skip(rest)?;
+    let base = Bytes::from_slice(alloc, base)?;
     Ok(Op::Search(SearchRequest {
         base,
         scope,
@@ -105,12 +115,11 @@ fn search_inside(alloc: Global, w: Cursor) -> Result<Op, ReadFault>
     }))
 }
 
-#[tactic(auto, unfolding(crate::specs::Grammar::modification_inside, crate::specs::Window::element))]
+#[tactic(auto, unfolding(crate::specs::Grammar::modification_inside))]
 fn modification_inside(alloc: Global, w: Cursor) -> Result<RawMod, ReadFault>
     ensures { Gives (λ m. m) result (modification_inside (window w.entry)) }
 {
-    let (inside, rest) = w.open_as(0x0a)?;
-    let kind = inside.int()?;
+    let (kind, rest) = w.int_as(0x0a)?;
     let (attr, rest) = attribute(alloc, rest)?;
     ended(rest)?;
     Ok(RawMod {
@@ -120,7 +129,7 @@ fn modification_inside(alloc: Global, w: Cursor) -> Result<RawMod, ReadFault>
     })
 }
 
-#[tactic(auto, unfolding(crate::specs::Window::element))]
+#[tactic(auto, unfolding(ber_core::specs::Window::element))]
 fn modification(alloc: Global, w: Cursor) -> Result<(RawMod, Cursor), ReadFault>
     ensures { Gives with_window result (modification (window w.entry)) }
 {
@@ -144,7 +153,7 @@ fn modifications(alloc: Global, w: Cursor) -> Result<RawModList, ReadFault>
     Ok(all)
 }
 
-#[tactic(auto, unfolding(crate::specs::Grammar::modify_inside, crate::specs::Window::element))]
+#[tactic(auto, unfolding(crate::specs::Grammar::modify_inside, ber_core::specs::Window::element))]
 fn modify_inside(alloc: Global, w: Cursor) -> Result<Op, ReadFault>
     ensures { Gives (λ o. o) result (modify_inside (window w.entry)) }
 {
@@ -155,7 +164,7 @@ fn modify_inside(alloc: Global, w: Cursor) -> Result<Op, ReadFault>
     Ok(Op::Modify { object, mods })
 }
 
-#[tactic(auto, unfolding(crate::specs::Grammar::add_inside, crate::specs::Window::element))]
+#[tactic(auto, unfolding(crate::specs::Grammar::add_inside, ber_core::specs::Window::element))]
 fn add_inside(alloc: Global, w: Cursor) -> Result<Op, ReadFault>
     ensures { Gives (λ o. o) result (add_inside (window w.entry)) }
 {
@@ -174,16 +183,17 @@ fn delete_inside(alloc: Global, w: Cursor) -> Result<Op, ReadFault>
     Ok(Op::Delete { object })
 }
 
-#[tactic(auto, unfolding(crate::specs::Grammar::rename_inside, crate::specs::Window::element))]
+#[tactic(auto, unfolding(crate::specs::Grammar::rename_inside))]
 fn rename_inside(alloc: Global, w: Cursor) -> Result<Op, ReadFault>
     ensures { Gives (λ o. o) result (rename_inside (window w.entry)) }
 {
-    let (object, rest) = text(alloc, w)?;
-    let (new_rdn, rest) = text(alloc, rest)?;
-    let (inside, rest) = rest.open_as(0x01)?;
-    let delete_old = inside.boolean()?;
+    let (object, rest) = w.octets_as(0x04)?;
+    let (new_rdn, rest) = rest.octets_as(0x04)?;
+    let (delete_old, rest) = rest.boolean_here()?;
     let (new_superior, rest) = optional_text(alloc, 0x80, rest)?;
     skip(rest)?;
+    let object = Bytes::from_slice(alloc, object)?;
+    let new_rdn = Bytes::from_slice(alloc, new_rdn)?;
     Ok(Op::Rename {
         object,
         new_rdn,
@@ -192,7 +202,7 @@ fn rename_inside(alloc: Global, w: Cursor) -> Result<Op, ReadFault>
     })
 }
 
-#[tactic(auto, unfolding(crate::specs::Grammar::compare_inside, crate::specs::Window::element))]
+#[tactic(auto, unfolding(crate::specs::Grammar::compare_inside, ber_core::specs::Window::element))]
 fn compare_inside(alloc: Global, w: Cursor) -> Result<Op, ReadFault>
     ensures { Gives (λ o. o) result (compare_inside (window w.entry)) }
 {
@@ -214,7 +224,7 @@ fn abandon_inside(w: Cursor) -> Result<Op, ReadFault>
     Ok(Op::Abandon { id: count(w)? })
 }
 
-#[tactic(auto, unfolding(crate::specs::Grammar::extended_inside, crate::specs::Window::element))]
+#[tactic(auto, unfolding(crate::specs::Grammar::extended_inside, ber_core::specs::Window::element))]
 fn extended_inside(alloc: Global, w: Cursor) -> Result<Op, ReadFault>
     ensures { Gives (λ o. o) result (extended_inside (window w.entry)) }
 {

@@ -1,39 +1,15 @@
 //! Parts that operations share: attributes, assertions, texts.
 
 ghost use Rattle.std.specs.Prelude.{◌≡◌};
-ghost use Rattle.ldap_requests.specs.Cursor.{Gives, window, with_window};
+ghost use Rattle.ber_core.specs.Cursor.{Gives, window, with_window};
 ghost use Rattle.ldap_requests.specs.Grammar.{text, attribute, attribute_inside, count, assertion};
-ghost use Rattle.ldap_requests.specs.Window.{skip, skip_one, ended, many, optional, octets, boolean};
+ghost use Rattle.ber_core.specs.Window.{skip, skip_one, many, optional, boolean};
 
-use crate::cursor::Cursor;
-use crate::fault::{NotLdapWhy, ReadFault};
+use ber_core::{Cursor, NotLdapWhy, ReadFault, ended, text};
 use ldap_types::{Bytes, BytesList, RawAttr, RawAttrList};
 use std::alloc::Global;
 
-#[tactic(auto, unfolding(crate::specs::Window::element))]
-pub(crate) fn text(alloc: Global, w: Cursor) -> Result<(Bytes, Cursor), ReadFault>
-    ensures { Gives with_window result (text (window w.entry)) }
-{
-    let (inside, rest) = w.open_as(0x04)?;
-    let bytes = Bytes::from_slice(alloc, inside.octets()?)?;
-    Ok((bytes, rest))
-}
-
-#[tactic(auto, unfolding(crate::specs::Window::ended))]
-pub fn ended(w: Cursor) -> Result<(), ReadFault>
-    ensures { Gives (λ u. u) result (ended (window w.entry)) }
-{
-    if w.left == 0 {
-        return Ok(());
-    }
-    w.tag()?;
-    Err(ReadFault::NotLdap {
-        place: w.at,
-        why: NotLdapWhy::Shape,
-    })
-}
-
-#[tactic(auto, unfolding(crate::specs::Window::skip_one))]
+#[tactic(auto, unfolding(ber_core::specs::Window::skip_one))]
 fn skip_one(w: Cursor) -> Result<Cursor, ReadFault>
     ensures { Gives window result (skip_one (window w.entry)) }
 {
@@ -72,26 +48,7 @@ pub(crate) fn texts(alloc: Global, w: Cursor) -> Result<BytesList, ReadFault>
     Ok(all)
 }
 
-#[tactic(auto, unfolding(crate::specs::Window::optional, crate::specs::Window::element))]
-pub(crate) fn optional_text(
-    alloc: Global,
-    tag: u8,
-    w: Cursor,
-) -> Result<(Option<Bytes>, Cursor), ReadFault>
-    ensures { Gives with_window result (optional tag octets (window w.entry)) }
-{
-    if w.left == 0 {
-        return Ok((None, w));
-    }
-    if w.tag()? != tag {
-        return Ok((None, w));
-    }
-    let (inside, rest) = w.open_as(tag)?;
-    let bytes = Bytes::from_slice(alloc, inside.octets()?)?;
-    Ok((Some(bytes), rest))
-}
-
-#[tactic(auto, unfolding(crate::specs::Window::optional, crate::specs::Window::element))]
+#[tactic(auto, unfolding(ber_core::specs::Window::optional, ber_core::specs::Window::element))]
 pub(crate) fn optional_boolean(w: Cursor) -> Result<(Option<bool>, Cursor), ReadFault>
     ensures { Gives with_window result (optional 0x01 boolean (window w.entry)) }
 {
@@ -120,7 +77,7 @@ pub fn count(w: Cursor) -> Result<u32, ReadFault>
     Ok(value as u32)
 }
 
-#[tactic(auto, unfolding(crate::specs::Grammar::attribute_inside, crate::specs::Window::element))]
+#[tactic(auto, unfolding(crate::specs::Grammar::attribute_inside, ber_core::specs::Window::element))]
 fn attribute_inside(alloc: Global, w: Cursor) -> Result<RawAttr, ReadFault>
     ensures { Gives (λ a. a) result (attribute_inside (window w.entry)) }
 {
@@ -131,7 +88,7 @@ fn attribute_inside(alloc: Global, w: Cursor) -> Result<RawAttr, ReadFault>
     Ok(RawAttr { name, vals })
 }
 
-#[tactic(auto, unfolding(crate::specs::Window::element))]
+#[tactic(auto, unfolding(ber_core::specs::Window::element))]
 pub(crate) fn attribute(alloc: Global, w: Cursor) -> Result<(RawAttr, Cursor), ReadFault>
     ensures { Gives with_window result (attribute (window w.entry)) }
 {

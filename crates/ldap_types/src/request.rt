@@ -3,6 +3,9 @@
 use repl_data::{Bytes, BytesList, Items};
 use sqlite_items::Boxed;
 
+/// How many bytes a message has at most.
+pub const MESSAGE_LIMIT: usize = 2_097_152;
+
 /// A message of a client (RFC 4511, section 4.1.1).
 #[derive(Debug, Drop)]
 pub struct Request {

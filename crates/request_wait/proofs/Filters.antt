@@ -4,8 +4,8 @@ use Rattle.std.proofs.lemmas.Bool.{eqb-true, cond_both}
 use Rattle.std.specs.Prelude.{◌==◌}
 use Rattle.ldap_types.specs.declared.request.Filter.{Filter}
 use Rattle.ldap_types.specs.declared.request.Filter.TheVariants as filter
-use Rattle.ldap_requests.specs.declared.fault.NotLdapWhy.TheVariants as why
-use Rattle.ldap_requests.specs.Window.{Stop, Fault, Window, Reading, ◌>>=◌, tag_here, open_here, open_as, octets, element, ended, many, optional, with_first, run, run_from, refused}
+use Rattle.ber_core.specs.declared.fault.NotLdapWhy.TheVariants as why
+use Rattle.ber_core.specs.Window.{Stop, Fault, Window, Reading, ◌>>=◌, tag_here, open_here, open_as, octets, element, ended, many, optional, with_first, run, run_from, refused}
 use Rattle.ldap_requests.specs.Grammar.{assertion, some_piece, pieces, substrings_inside, is_filter_tag, simple_inside, filter_inside, filter_at}
 use Rattle.request_wait.specs.declared.part.Part.{Part}
 use Rattle.request_wait.specs.declared.part.Part.TheVariants as part

@@ -1,7 +1,7 @@
 -- A reading that begins with an element, by what stands first.
 use Rattle.std.proofs.Common.{◌≡◌, ℕ, Bool, true, false, cond, eqb, List, [], ◌∷◌, Option, Some, None, Result, Ok, Err, refl, ap, ◌∙◌}
 use Rattle.std.specs.Prelude.{◌==◌}
-use Rattle.ldap_requests.specs.Window.{Stop, Window, Reading, ◌>>=◌, tag_here, open_as, element, many, optional}
+use Rattle.ber_core.specs.Window.{Stop, Window, Reading, ◌>>=◌, tag_here, open_as, element, many, optional}
 use Rattle.request_wait.specs.Inside.{Outcome, done, outcome}
 use Rattle.request_wait.proofs.Fuel.{element_shrinks, many_is}
 

@@ -4,8 +4,8 @@ use Rattle.std.proofs.lemmas.Bool.{eqb-true, cond_both}
 use Rattle.std.specs.Prelude.{◌==◌}
 use Rattle.ldap_types.specs.declared.request.Auth.TheVariants.{Simple, Sasl}
 use Rattle.ldap_types.specs.declared.request.Op.TheVariants as op
-use Rattle.ldap_requests.specs.Window.{Stop, Window, Reading, ◌>>=◌, tag_here, open_here, open_as, octets, int, boolean, element, skip, ended, many, optional}
-use Rattle.ldap_requests.specs.Grammar.{text, count, message_id, attribute_inside, attribute, assertion, sasl, auth, bind_inside, unbind_inside, delete_inside, abandon_inside, add_inside, modification_inside, modification, modify_inside, rename_inside, compare_inside, extended_inside, filter_at, search_inside, is_op_tag, op_inside, operation, control_inside, control, request_inside, outermost}
+use Rattle.ber_core.specs.Window.{Stop, Window, Reading, ◌>>=◌, tag_here, open_here, open_as, octets, int, boolean, element, skip, ended, many, optional, outermost}
+use Rattle.ldap_requests.specs.Grammar.{text, count, message_id, attribute_inside, attribute, assertion, sasl, auth, bind_inside, unbind_inside, delete_inside, abandon_inside, add_inside, modification_inside, modification, modify_inside, rename_inside, compare_inside, extended_inside, filter_at, search_inside, is_op_tag, op_inside, operation, control_inside, control, request_inside}
 use Rattle.request_wait.specs.declared.part.Part.{Part}
 use Rattle.request_wait.specs.declared.part.Part.TheVariants as part
 use Rattle.request_wait.specs.declared.part.Leaf.TheVariants as leaf

@@ -4,7 +4,7 @@ use Rattle.std.proofs.lemmas.Bool.Decides.{nat_tests}
 use Rattle.ber_core.specs.declared.read.Header.{Header}
 use Rattle.ber_core.specs.Reading.{header_at, header_size}
 use Rattle.ber_core.proofs.Laws.{header_takes}
-use Rattle.ldap_requests.specs.Window.{Stop, Window, Reading, ◌>>=◌, tag_here, after, open_here, open_as, octets, element, skip_one, skip_from, skip, many_from, many}
+use Rattle.ber_core.specs.Window.{Stop, Window, Reading, ◌>>=◌, tag_here, after, open_here, open_as, octets, element, skip_one, skip_from, skip, many_from, many}
 use Rattle.request_wait.specs.Inside.{Outcome, done}
 use Rattle.request_wait.proofs.Stays.{same_ok, opened, opened_here}
 

@@ -1,8 +1,8 @@
 -- The place moves, and says the same of the message.
 use Rattle.std.proofs.Common.{◌≡◌, ℕ, List, [], ◌∷◌, ◌++◌, Result, Ok, Err, refl, sym, ap, subst, ◌∙◌, append_assoc}
 use Rattle.std.proofs.lemmas.List.{append-nil}
-use Rattle.ldap_requests.specs.Window.{Stop, More, Window, ◌>>=◌, open_as}
-use Rattle.ldap_requests.specs.Grammar.{request_inside, outermost, request_at}
+use Rattle.ber_core.specs.Window.{Stop, More, Window, ◌>>=◌, open_as, outermost}
+use Rattle.ldap_requests.specs.Grammar.{request_inside, request_at}
 use Rattle.request_wait.specs.declared.part.Part.TheVariants as part
 use Rattle.request_wait.specs.declared.place.Place.{Place}
 use Rattle.request_wait.specs.declared.waiting.Waiting.{Waiting}

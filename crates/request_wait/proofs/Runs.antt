@@ -2,7 +2,7 @@
 use Rattle.std.proofs.Common.{◌≡◌, ℕ, zero, suc, ◌<◌, ◌≤◌, Bool, true, false, cond, eqb, List, [], ◌∷◌, Option, Some, None, Result, Ok, Err, refl, sym, ap, ◌∙◌, arith}
 use Rattle.std.proofs.lemmas.Bool.Decides.{nat_tests}
 use Rattle.std.specs.Prelude.{◌==◌}
-use Rattle.ldap_requests.specs.Window.{Stop, Window, Reading, ◌>>=◌, tag_here, element, optional, with_first, run_from, run}
+use Rattle.ber_core.specs.Window.{Stop, Window, Reading, ◌>>=◌, tag_here, element, optional, with_first, run_from, run}
 use Rattle.request_wait.proofs.Stays.{same_ok}
 use Rattle.request_wait.proofs.Fuel.{element_shrinks}
 

@@ -6,8 +6,8 @@ use Rattle.ber_core.specs.declared.fault.BerFault.{BerFault}
 use Rattle.ber_core.specs.declared.fault.BerFault.TheVariants as ber
 use Rattle.ber_core.specs.declared.read.Header.{Header}
 use Rattle.ber_core.specs.Reading.{header_at}
-use Rattle.ldap_requests.specs.Window.{Stop, Window, ◌>>=◌, tag_here, inside, after, both, open_here, open_as, refused}
-use Rattle.ldap_requests.proofs.Stable.{Keeps, kept, more_yet, at_fault, Grows, Equal, BothGrow, StaysInside, drop_append, tag_stays, open_as_stays, octets_stays, int_stays, boolean_stays}
+use Rattle.ber_core.specs.Window.{Stop, Window, ◌>>=◌, tag_here, inside, after, both, open_here, open_as, refused}
+use Rattle.ber_core.proofs.Stable.{Keeps, kept, more_yet, at_fault, Grows, Equal, BothGrow, StaysInside, drop_append, tag_stays, open_as_stays, octets_stays, int_stays, boolean_stays}
 use Rattle.ldap_requests.proofs.StableMessage.{count_stays, message_id_stays}
 use Rattle.request_wait.specs.declared.part.Part.{Part}
 use Rattle.request_wait.specs.declared.part.Leaf.{Leaf}

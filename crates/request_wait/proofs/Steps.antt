@@ -2,7 +2,7 @@
 use Rattle.std.proofs.Common.{◌≡◌, ℕ, ◌-◌, ◌<◌, ◌≤◌, true, false, eqb, List, ◌++◌, Some, Result, Ok, Err, refl, ◌∙◌, arith}
 use Rattle.std.proofs.lemmas.Bool.{eq-eqb, ne_eqb}
 use Rattle.std.proofs.lemmas.Bool.Decides.{nat_tests}
-use Rattle.ldap_requests.specs.Window.{Stop, More, Window, ◌>>=◌, tag_here, open_here, open_as, octets, skip_one}
+use Rattle.ber_core.specs.Window.{Stop, More, Window, ◌>>=◌, tag_here, open_here, open_as, octets, skip_one}
 use Rattle.request_wait.specs.declared.part.Part.{Part}
 use Rattle.request_wait.specs.declared.part.Leaf.{Leaf}
 use Rattle.request_wait.specs.declared.part.Content.{Content}

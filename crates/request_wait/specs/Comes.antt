@@ -1,6 +1,6 @@
 -- What comes of looking at the first element of a place.
 use Rattle.std.specs.Prelude.{◌≡◌, ℕ, List, ◌++◌, Err}
-use Rattle.ldap_requests.specs.Window.{Window, More, ◌>>=◌}
+use Rattle.ber_core.specs.Window.{Window, More, ◌>>=◌}
 use Rattle.request_wait.specs.declared.place.Place.{Place}
 use Rattle.request_wait.specs.declared.next.Next.{Next}
 use Rattle.request_wait.specs.declared.next.Next.TheVariants as next

@@ -1,8 +1,8 @@
 -- What reading a part comes to, up to the end of the element around it: the reading of requests without the values that it gives.
 use Rattle.std.specs.Prelude.{ℕ, ◌==◌, [], Option, Some, None, Result, Ok, Err, if◌then◌else◌}
-use Rattle.ldap_requests.specs.declared.fault.NotLdapWhy.TheVariants as why
-use Rattle.ldap_requests.specs.Window.{Stop, Fault, Window, ◌>>=◌, tag_here, open_as, octets, int, boolean, element, skip_one, skip, ended, many, optional, run}
-use Rattle.ldap_requests.specs.Grammar.{text, count, message_id, attribute_inside, attribute, assertion, sasl, auth, bind_inside, unbind_inside, add_inside, modification_inside, modification, modify_inside, rename_inside, compare_inside, extended_inside, pieces, substrings_inside, filter_at, search_inside, operation, control_inside, control, request_inside, outermost}
+use Rattle.ber_core.specs.declared.fault.NotLdapWhy.TheVariants as why
+use Rattle.ber_core.specs.Window.{Stop, Fault, Window, ◌>>=◌, tag_here, open_as, octets, int, boolean, element, skip_one, skip, ended, many, optional, run, outermost}
+use Rattle.ldap_requests.specs.Grammar.{text, count, message_id, attribute_inside, attribute, assertion, sasl, auth, bind_inside, unbind_inside, add_inside, modification_inside, modification, modify_inside, rename_inside, compare_inside, extended_inside, pieces, substrings_inside, filter_at, search_inside, operation, control_inside, control, request_inside}
 use Rattle.request_wait.specs.declared.part.Part.{Part}
 use Rattle.request_wait.specs.declared.part.Part.TheVariants as part
 use Rattle.request_wait.specs.declared.part.Leaf.{Leaf}

@@ -1,6 +1,6 @@
 -- A place in the bytes of a message, and what reading comes to from there on.
 use Rattle.std.specs.Prelude.{ℕ, ◌+◌, ◌-◌, List, [], ◌∷◌, drop}
-use Rattle.ldap_requests.specs.Window.{Window, ◌>>=◌}
+use Rattle.ber_core.specs.Window.{Window, ◌>>=◌}
 use Rattle.request_wait.specs.declared.place.Place.{Place}
 use Rattle.request_wait.specs.declared.part.Part.{Part}
 use Rattle.request_wait.specs.Inside.{Outcome, done, inside}

@@ -1,6 +1,6 @@
 -- What a place in the bytes says of the message.
 use Rattle.std.specs.Prelude.{◌≡◌, ℕ, List, ◌++◌}
-use Rattle.ldap_requests.specs.Window.{◌>>=◌}
+use Rattle.ber_core.specs.Window.{◌>>=◌}
 use Rattle.ldap_requests.specs.Grammar.{request_at}
 use Rattle.request_wait.specs.declared.waiting.Waiting.{Waiting}
 use Rattle.request_wait.specs.Inside.{outcome}

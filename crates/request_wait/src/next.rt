@@ -1,14 +1,15 @@
 //! One step of the place.
 
 ghost use Rattle.std.specs.Prelude.{◌≡◌};
-ghost use Rattle.ldap_requests.specs.Cursor.{Gives, window};
-ghost use Rattle.ldap_requests.specs.Window.{ended};
+ghost use Rattle.ber_core.specs.Cursor.{Gives, window};
+ghost use Rattle.ber_core.specs.Window.{ended};
 ghost use Rattle.request_wait.specs.Comes.{Comes};
 ghost use Rattle.request_wait.specs.Inside.{inside, of_leaf, one, many_of, optional_of, choice_of, many_of_choice, some_of, skip_of, empty, start_of, by_form};
 
 use crate::part::{Choice, Content, Form, Leaf, Part, TEXT};
 use crate::place::Place;
-use ldap_requests::{Cursor, ReadFault, count, message_id};
+use ber_core::{Cursor, ReadFault};
+use ldap_requests::{count, message_id};
 
 /// What comes of looking at the first element of a place.
 pub(crate) enum Next {
@@ -167,7 +168,7 @@ fn skipped(place: Place, bytes: &[u8]) -> Next
 }
 
 /// The end of the element around the place.
-#[tactic(auto, unfolding(ldap_requests::specs::Window::ended))]
+#[tactic(auto, unfolding(ber_core::specs::Window::ended))]
 fn nothing(place: Place, bytes: &[u8]) -> Next
     ensures { Comes result ended place bytes.now }
 {

@@ -3,7 +3,7 @@
 ghost use Rattle.std.specs.Prelude.{◌≡◌};
 
 use crate::part::Part;
-use ldap_requests::Cursor;
+use ber_core::Cursor;
 
 /// A place inside an element of the message, by offsets into the message's bytes.
 #[derive(Clone, Copy, Debug)]
@@ -18,7 +18,7 @@ pub(crate) struct Place {
 }
 
 impl Place {
-    ghost use Rattle.ldap_requests.specs.Cursor.{window};
+    ghost use Rattle.ber_core.specs.Cursor.{window};
     ghost use Rattle.request_wait.specs.Place.{seen, place_at};
 
     /// The place in these bytes.

@@ -1,7 +1,7 @@
 //! The bytes of an unfinished request, with the place in them.
 
 ghost use Rattle.std.specs.Prelude.{◌≡◌, ◌↔◌, ◌++◌, [], Err, IsTrue, OnOk, OnErr, length};
-ghost use Rattle.ldap_requests.specs.Window.{More as Missing};
+ghost use Rattle.ber_core.specs.Window.{More as Missing};
 ghost use Rattle.ldap_requests.specs.Grammar.{request_at};
 
 use crate::waiting::Waiting;

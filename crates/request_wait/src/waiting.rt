@@ -1,7 +1,7 @@
 //! The place and its steps, beside bytes that are kept elsewhere.
 
 ghost use Rattle.std.specs.Prelude.{◌≡◌, IsTrue, Err};
-ghost use Rattle.ldap_requests.specs.Window.{More as Missing};
+ghost use Rattle.ber_core.specs.Window.{More as Missing};
 ghost use Rattle.ldap_requests.specs.Grammar.{request_at};
 ghost use Rattle.request_wait.specs.Waiting.{StaysInBytes};
 
@@ -9,7 +9,7 @@ use crate::levels::Levels;
 use crate::next::{Next, look};
 use crate::part::Part;
 use crate::place::Place;
-use ldap_requests::MESSAGE_LIMIT;
+use ldap_types::MESSAGE_LIMIT;
 
 /// How far the bytes of a message were looked at: a place in them, and the elements around it.
 #[derive(Debug, Drop)]

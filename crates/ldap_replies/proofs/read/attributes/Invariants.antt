@@ -1,8 +1,8 @@
 use Rattle.std.proofs.Common.{◌≡◌, ◌-◌}
-use Rattle.ldap_requests.specs.Cursor.{window}
+use Rattle.ber_core.specs.Cursor.{window}
 use Rattle.ldap_replies.specs.Grammar.{attribute}
-use Rattle.ldap_requests.specs.Window.{many_from}
-use Rattle.ldap_requests.proofs.Loops.{with_front}
+use Rattle.ber_core.specs.Window.{many_from}
+use Rattle.ber_core.proofs.Loops.{with_front}
 use Rattle.ldap_replies.proofs.read.attributes.Given as goal
 
 abbrev pub invariant-loop : goal.invariant-loop

@@ -1,8 +1,8 @@
 use Rattle.std.proofs.Common.{◌≡◌, ℕ, List, Option, Some, None, Result, Ok, ap, ◌∙◌}
 use Rattle.std.proofs.lemmas.Result.{err_from_is_err_and}
-use Rattle.ldap_requests.specs.Cursor.{window}
-use Rattle.ldap_requests.specs.Window.{Stop, Window, octets, optional, run_from}
-use Rattle.ldap_requests.proofs.Loops.{run_goes_on, run_stops, run_fails, run_done}
+use Rattle.ber_core.specs.Cursor.{window}
+use Rattle.ber_core.specs.Window.{Stop, Window, octets, optional, run_from}
+use Rattle.ber_core.proofs.Loops.{run_goes_on, run_stops, run_fails, run_done}
 use Rattle.ldap_requests.proofs.filter.run.Goals as goal
 
 abbrev read : Option (List ℕ) → Window → Result (Option (List ℕ) × Window) Stop

@@ -1,7 +1,7 @@
 use Rattle.std.proofs.Common.{◌≡◌, ◌-◌}
-use Rattle.ldap_requests.specs.Cursor.{window}
-use Rattle.ldap_requests.specs.Window.{octets, run_from}
-use Rattle.ldap_requests.proofs.Loops.{with_front_pair}
+use Rattle.ber_core.specs.Cursor.{window}
+use Rattle.ber_core.specs.Window.{octets, run_from}
+use Rattle.ber_core.proofs.Loops.{with_front_pair}
 use Rattle.ldap_requests.proofs.filter.run.Given as goal
 
 abbrev pub invariant-loop : goal.invariant-loop

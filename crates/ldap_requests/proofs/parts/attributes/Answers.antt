@@ -1,8 +1,8 @@
 use Rattle.std.proofs.lemmas.Result.{err_from_is_err_and}
-use Rattle.ldap_requests.specs.Cursor.{window}
+use Rattle.ber_core.specs.Cursor.{window}
 use Rattle.ldap_requests.specs.Grammar.{attribute}
-use Rattle.ldap_requests.specs.Window.{many_from}
-use Rattle.ldap_requests.proofs.Loops.{goes_on, fails, at_end, is_done}
+use Rattle.ber_core.specs.Window.{many_from}
+use Rattle.ber_core.proofs.Loops.{goes_on, fails, at_end, is_done}
 use Rattle.ldap_requests.proofs.parts.attributes.Goals as goal
 
 pub returns-then-here-eq0 : goal.returns-then-here-eq0

@@ -1,7 +1,7 @@
 use Rattle.std.proofs.lemmas.Result.{err_from_is_err_and}
-use Rattle.ldap_requests.specs.Cursor.{window}
-use Rattle.ldap_requests.specs.Window.{skip_from}
-use Rattle.ldap_requests.proofs.Loops.{skip_goes_on, skip_fails, skip_at_end, skip_done}
+use Rattle.ber_core.specs.Cursor.{window}
+use Rattle.ber_core.specs.Window.{skip_from}
+use Rattle.ber_core.proofs.Loops.{skip_goes_on, skip_fails, skip_at_end, skip_done}
 use Rattle.ldap_requests.proofs.parts.skip.Goals as goal
 
 pub returns-then-here-eq0 : goal.returns-then-here-eq0

@@ -1,6 +1,6 @@
 use Rattle.std.proofs.Common.{◌≡◌, ◌-◌}
-use Rattle.ldap_requests.specs.Cursor.{window}
-use Rattle.ldap_requests.specs.Window.{skip_from}
+use Rattle.ber_core.specs.Cursor.{window}
+use Rattle.ber_core.specs.Window.{skip_from}
 use Rattle.ldap_requests.proofs.parts.skip.Given as goal
 
 abbrev pub invariant-loop : goal.invariant-loop

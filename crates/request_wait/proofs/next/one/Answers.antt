@@ -1,6 +1,6 @@
 use Rattle.std.proofs.Common.{◌≡◌, Ok, sym}
-use Rattle.ldap_requests.specs.Window.{Window, open_as}
-use Rattle.ldap_requests.specs.Cursor.{window}
+use Rattle.ber_core.specs.Window.{Window, open_as}
+use Rattle.ber_core.specs.Cursor.{window}
 use Rattle.request_wait.specs.Place.{seen}
 use Rattle.request_wait.proofs.Steps.{one_waits, leaf_waits, one_enters, leaf_goes}
 use Rattle.request_wait.proofs.next.one.Goals as goal

@@ -1,5 +1,5 @@
 use Rattle.std.proofs.Common.{◌≡◌, ◌++◌, Ok, Err, Some, sym, subst}
-use Rattle.ldap_requests.specs.Window.{More, Window, tag_here}
+use Rattle.ber_core.specs.Window.{More, Window, tag_here}
 use Rattle.request_wait.specs.Inside.{one, choice_of}
 use Rattle.request_wait.specs.Table.{content_by}
 use Rattle.request_wait.specs.Place.{seen}

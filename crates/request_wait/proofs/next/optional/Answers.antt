@@ -1,5 +1,5 @@
 use Rattle.std.proofs.Common.{◌≡◌, ◌++◌, Ok, Err, subst}
-use Rattle.ldap_requests.specs.Window.{More, Window, tag_here}
+use Rattle.ber_core.specs.Window.{More, Window, tag_here}
 use Rattle.request_wait.specs.Inside.{one, optional_of}
 use Rattle.request_wait.specs.Place.{seen}
 use Rattle.request_wait.proofs.Stays.{tag_again}

@@ -1,5 +1,5 @@
 use Rattle.std.proofs.Common.{◌≡◌, ◌++◌, Ok, Err, subst}
-use Rattle.ldap_requests.specs.Window.{More, Window, tag_here}
+use Rattle.ber_core.specs.Window.{More, Window, tag_here}
 use Rattle.request_wait.specs.Inside.{one, skip_of}
 use Rattle.request_wait.specs.Table.{octets}
 use Rattle.request_wait.specs.Place.{seen}

@@ -14,9 +14,9 @@ use Rattle.ber_core.specs.Reading.{form_of, digit_count, least_size, header_of, 
 use Rattle.ber_core.proofs.Digits.{least_number_grows}
 use Rattle.ber_core.proofs.Laws.{header_takes, header_found, header_again}
 use Rattle.ber_core.specs.Number.{least_number}
-use Rattle.ldap_requests.specs.declared.fault.NotLdapWhy.{NotLdapWhy}
-use Rattle.ldap_requests.specs.declared.fault.NotLdapWhy.TheVariants as why
-use Rattle.ldap_requests.specs.Window.{Stop, Fault, More, Window, Reading, ◌>>=◌, tag_in, tag_here, inside, after, both, open_here, open_as, octets, or_shape, int, boolean, element, refused, skip_one, skip_from, skip, ended, many_from, many, optional, with_first, run_from, run}
+use Rattle.ber_core.specs.declared.fault.NotLdapWhy.{NotLdapWhy}
+use Rattle.ber_core.specs.declared.fault.NotLdapWhy.TheVariants as why
+use Rattle.ber_core.specs.Window.{Stop, Fault, More, Window, Reading, ◌>>=◌, tag_in, tag_here, inside, after, both, open_here, open_as, octets, or_shape, int, boolean, element, refused, skip_one, skip_from, skip, ended, many_from, many, optional, with_first, run_from, run}
 
 -- ---- headers
 

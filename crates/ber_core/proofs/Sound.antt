@@ -13,9 +13,9 @@ use Rattle.ber_core.specs.Element.{IsElement}
 use Rattle.ber_core.specs.Number.{integer_of, boolean_of}
 use Rattle.ber_core.specs.Reading.{header_at, header_size, least_size}
 use Rattle.ber_core.proofs.Laws.{header_takes, header_element}
-use Rattle.ldap_requests.specs.declared.fault.NotLdapWhy.TheVariants as why
-use Rattle.ldap_requests.specs.Window.{Stop, Fault, More, Window, Reading, ◌>>=◌, tag_in, tag_here, inside, after, both, open_here, open_as, octets, or_shape, int, boolean, element, refused, skip_one, skip_from, skip, ended, many_from, many, optional, with_first, run_from, run}
-use Rattle.ldap_requests.specs.Spelling.{Element, Then, Given, ThenMaybe, Nothing, Each, none, next, IsSomeElement, Unknown, Octets, Integer, Boolean}
+use Rattle.ber_core.specs.declared.fault.NotLdapWhy.TheVariants as why
+use Rattle.ber_core.specs.Window.{Stop, Fault, More, Window, Reading, ◌>>=◌, tag_in, tag_here, inside, after, both, open_here, open_as, octets, or_shape, int, boolean, element, refused, skip_one, skip_from, skip, ended, many_from, many, optional, with_first, run_from, run}
+use Rattle.ber_core.specs.Spelling.{Element, Then, Given, ThenMaybe, Nothing, Each, none, next, IsSomeElement, Unknown, Octets, Integer, Boolean}
 
 -- ---- what is read holds
 

@@ -8,9 +8,9 @@ use Rattle.ber_core.specs.Element.{IsElement, IsLength, IsTag}
 use Rattle.ber_core.specs.Number.{integer, integer_of, boolean_of}
 use Rattle.ber_core.specs.Reading.{header_at}
 use Rattle.ber_core.proofs.Laws.{header_from_element, header_again}
-use Rattle.ldap_requests.specs.Window.{Stop, Window, Reading, ◌>>=◌, tag_in, tag_here, inside, after, both, open_here, open_as, octets, or_shape, int, boolean, element, refused, skip_one, skip_from, skip, ended}
-use Rattle.ldap_requests.specs.Spelling.{Element, Nothing, Each, none, next, IsSomeElement, Unknown, Octets, Integer, Boolean}
-use Rattle.ldap_requests.proofs.Sound.{element_some}
+use Rattle.ber_core.specs.Window.{Stop, Window, Reading, ◌>>=◌, tag_in, tag_here, inside, after, both, open_here, open_as, octets, or_shape, int, boolean, element, refused, skip_one, skip_from, skip, ended}
+use Rattle.ber_core.specs.Spelling.{Element, Nothing, Each, none, next, IsSomeElement, Unknown, Octets, Integer, Boolean}
+use Rattle.ber_core.proofs.Sound.{element_some}
 
 -- ---- something was read
 

@@ -1,13 +1,13 @@
 -- Reading elements from the front, of bytes that may go on.
-use Rattle.std.specs.Prelude.{ℕ, zero, suc, ◌+◌, ◌-◌, ◌%◌, ℤ, ◌==◌, ◌||◌, nat_lt, List, [], ◌∷◌, length, take, drop, Option, Some, None, Bool, Result, Ok, Err, if◌then◌else◌}
+use Rattle.std.specs.Prelude.{ℕ, zero, suc, ◌+◌, ◌-◌, ◌%◌, ℤ, pos, negsuc, ◌==◌, ◌||◌, nat_lt, List, [], ◌∷◌, length, take, drop, Option, Some, None, Bool, Result, Ok, Err, if◌then◌else◌}
 use Rattle.ber_core.specs.declared.fault.BerFault.{BerFault}
 use Rattle.ber_core.specs.declared.fault.BerFault.TheVariants as ber
 use Rattle.ber_core.specs.declared.fault.BerWhy.TheVariants as ber_why
 use Rattle.ber_core.specs.Number.{integer_of, boolean_of}
 use Rattle.ber_core.specs.declared.read.Header.{Header}
 use Rattle.ber_core.specs.Reading.{header_at}
-use Rattle.ldap_requests.specs.declared.fault.NotLdapWhy.{NotLdapWhy}
-use Rattle.ldap_requests.specs.declared.fault.NotLdapWhy.TheVariants.{Ber, Shape}
+use Rattle.ber_core.specs.declared.fault.NotLdapWhy.{NotLdapWhy}
+use Rattle.ber_core.specs.declared.fault.NotLdapWhy.TheVariants.{Ber, Shape, TooLarge}
 
 -- why reading stops before a value: the bytes so far are no fault and no whole message, or they are at fault
 pub data Stop : Type 0 where
@@ -143,3 +143,23 @@ run_from tag content (suc more) w = do
 
 abbrev pub run : {A : Type 0} → ℕ → (Window → Result A Stop) → Window → Reading (List A)
 run tag content w = run_from tag content w.left w
+
+-- ---- leaves in their ranges
+
+-- a number from `least` to 2147483647
+abbrev pub in_range : ℕ → ℤ → Option ℕ
+in_range least (pos n) = if nat_lt n least || nat_lt 2147483647 n then None else Some n
+in_range least (negsuc n) = None
+
+abbrev pub ranged : NotLdapWhy → ℕ → Option ℕ → Result ℕ Stop
+ranged w at (Some n) = Ok n
+ranged w at None = Err (Fault at w)
+
+-- ---- the message
+
+-- a message that passes the limit has a why of its own
+abbrev pub outermost : {A : Type 0} → Result A Stop → Result A Stop
+outermost (Ok x) = Ok x
+outermost (Err More) = Err More
+outermost (Err (Fault p (Ber ber_why.TooLarge))) = Err (Fault p TooLarge)
+outermost (Err (Fault p w)) = Err (Fault p w)

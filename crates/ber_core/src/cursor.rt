@@ -2,8 +2,9 @@
 
 ghost use Rattle.std.specs.Prelude.{◌≡◌, ◌+◌, ◌<◌, ◌≤◌, ◌^◌};
 
-use crate::fault::{NotLdapWhy, ReadFault};
-use ber_core::{BerFault, BerWhy, Header, read_bool, read_header, read_int};
+use crate::fault::{BerFault, BerWhy, NotLdapWhy, ReadFault};
+use crate::number::{read_bool, read_int};
+use crate::read::{Header, read_header};
 
 /// A place inside an element, of bytes that may go on.
 #[derive(Clone, Copy)]
@@ -16,8 +17,8 @@ pub struct Cursor<'a> {
 }
 
 impl<'a> Cursor<'a> {
-    ghost use Rattle.ldap_requests.specs.Window.{tag_here, open_here, open_as, octets, int, boolean, skip};
-    ghost use Rattle.ldap_requests.specs.Cursor.{Gives, window, pair};
+    ghost use Rattle.ber_core.specs.Window.{tag_here, open_here, open_as, octets, int, boolean, skip};
+    ghost use Rattle.ber_core.specs.Cursor.{Gives, window, pair};
 
     /// The tag of the element that must stand here.
     #[tactic(auto, unfolding(crate::specs::Window::tag_in))]
@@ -53,7 +54,7 @@ impl<'a> Cursor<'a> {
 
     /// What is inside the element here, and what is after it.
     #[tactic(auto, unfolding(crate::specs::Window::open_here))]
-    pub(crate) fn open(self) -> Result<(Cursor<'a>, Cursor<'a>), ReadFault>
+    pub fn open(self) -> Result<(Cursor<'a>, Cursor<'a>), ReadFault>
         ensures { Gives pair result (open_here (window self.entry)) }
     {
         match read_header(self.bytes, self.left) {
@@ -133,8 +134,40 @@ impl<'a> Cursor<'a> {
 }
 
 impl<'a> Cursor<'a> {
-    ghost use Rattle.ldap_requests.specs.Window.{inside, after};
-    ghost use Rattle.ldap_requests.specs.Cursor.{window};
+    ghost use Rattle.ber_core.specs.Window.{element, octets, int, boolean};
+    ghost use Rattle.ber_core.specs.Cursor.{Gives, window, with_window};
+
+    /// The content of the element here, where its tag is this one, and what is after it.
+    #[tactic(auto, unfolding(crate::specs::Window::element))]
+    pub fn octets_as(self, tag: u8) -> Result<(&'a [u8], Cursor<'a>), ReadFault>
+        ensures { Gives (λ p. (p.0.now, window p.1)) result (element tag octets (window self.entry)) }
+    {
+        let (inside, rest) = self.open_as(tag)?;
+        Ok((inside.octets()?, rest))
+    }
+
+    /// The integer that the element here is, where its tag is this one, and what is after it.
+    #[tactic(auto, unfolding(crate::specs::Window::element))]
+    pub fn int_as(self, tag: u8) -> Result<(i64, Cursor<'a>), ReadFault>
+        ensures { Gives with_window result (element tag int (window self.entry)) }
+    {
+        let (inside, rest) = self.open_as(tag)?;
+        Ok((inside.int()?, rest))
+    }
+
+    /// The truth value that the BOOLEAN here is, and what is after it.
+    #[tactic(auto, unfolding(crate::specs::Window::element))]
+    pub fn boolean_here(self) -> Result<(bool, Cursor<'a>), ReadFault>
+        ensures { Gives with_window result (element 0x01 boolean (window self.entry)) }
+    {
+        let (inside, rest) = self.open_as(0x01)?;
+        Ok((inside.boolean()?, rest))
+    }
+}
+
+impl<'a> Cursor<'a> {
+    ghost use Rattle.ber_core.specs.Window.{inside, after};
+    ghost use Rattle.ber_core.specs.Cursor.{window};
     ghost use Rattle.std.specs.Prelude.{length};
 
     fn inside(self, header: Header) -> Cursor<'a>

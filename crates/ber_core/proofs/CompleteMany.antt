@@ -3,10 +3,10 @@ use Rattle.std.proofs.Common.{◌≡◌, ℕ, zero, suc, ◌≤◌, ◌<◌, Lis
 use Rattle.std.proofs.lemmas.Bool.{ne_eqb, eq-eqb}
 use Rattle.std.specs.Prelude.{◌==◌, slice_get}
 use Rattle.ber_core.specs.Element.{IsElement}
-use Rattle.ldap_requests.specs.Window.{Stop, Window, Reading, tag_here, many_from, many, optional, with_first, run_from, run}
-use Rattle.ldap_requests.specs.Spelling.{Element, Given, ThenMaybe, Nothing, Each, none, next, IsSomeElement, Unknown}
-use Rattle.ldap_requests.proofs.Sound.{element_some}
-use Rattle.ldap_requests.proofs.Complete.{Gets, gets, go_on, at_ok, chosen, passed, Is, Holds, cut, Leaves, Full, FullInside, at_end, not_at_end, stands, element_full, less}
+use Rattle.ber_core.specs.Window.{Stop, Window, Reading, tag_here, many_from, many, optional, with_first, run_from, run}
+use Rattle.ber_core.specs.Spelling.{Element, Given, ThenMaybe, Nothing, Each, none, next, IsSomeElement, Unknown}
+use Rattle.ber_core.proofs.Sound.{element_some}
+use Rattle.ber_core.proofs.Complete.{Gets, gets, go_on, at_ok, chosen, passed, Is, Holds, cut, Leaves, Full, FullInside, at_end, not_at_end, stands, element_full, less}
 
 abbrev empty : {A : Type 0} → List A
 empty = []
