@@ -18,10 +18,21 @@ pub record HasCause {T : Type 0} (before now : ℕ) (result : Result T KeepFault
   pub later : before ≤ now
   pub failed : OnFailed result (Rose before now)
 
--- told rows become those that the batch leaves
+-- where the rows are told now, they were told before, and are those that the batch leaves
 abbrev pub Leaves : Option (List Row) → Option (List Row) → List BatchStep → Type 0
-Leaves None new batch = Unit {0}
-Leaves (Some rows) new batch = new ≡ Some (after_batch rows batch)
+Leaves before None batch = Unit {0}
+Leaves None (Some rows) batch = ⊥
+Leaves (Some before) (Some rows) batch = rows ≡ after_batch before batch
+
+-- where the rows are told now, they are those that were told before
+abbrev pub Stays : Option (List Row) → Option (List Row) → Type 0
+Stays before None = Unit {0}
+Stays before (Some rows) = before ≡ Some rows
+
+-- these are the rows that the batch leaves of those that were told
+abbrev pub AreLeftOf : Option (List Row) → List BatchStep → List Row → Type 0
+AreLeftOf None batch rows = ⊥
+AreLeftOf (Some before) batch rows = rows ≡ after_batch before batch
 
 -- these are the rows, where they are told
 abbrev pub AreTold : Option (List Row) → List Row → Type 0

@@ -51,9 +51,13 @@ impl CalmKeeper {
 impl Keeper for CalmKeeper {
     ghost rows = { λ k. Some k };
 
+    ghost may_find = { λ k found. found ≡ k };
+
     ghost accepted = { λ k batches. k ≡ after_batches [] batches };
 
     ghost faults = { λ _. 0 };
+
+    ghost settled = { λ k found is. is };
 
     ghost left = { λ k batches is. is };
 

@@ -104,9 +104,13 @@ impl MapKeeper {
 impl Keeper for MapKeeper {
     ghost rows = { λ k. Some k.rows };
 
+    ghost may_find = { λ k found. found ≡ k.rows };
+
     ghost accepted = { HasAccepted };
 
     ghost faults = { λ k. k.faults };
+
+    ghost settled = { λ k found is. is };
 
     ghost left = { λ k batches is. is.left };
 
