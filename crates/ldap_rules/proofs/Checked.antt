@@ -34,11 +34,11 @@ use Rattle.ldap_rules.proofs.Named.{parts_there, parts_read}
 
 -- ---- where no place is at fault
 
-any_map : {X : Type 0} (q : X → Bool) (xs : List X) → list_any (λ b. b) (map q xs) ≡ list_any q xs
+pub any_map : {X : Type 0} (q : X → Bool) (xs : List X) → list_any (λ b. b) (map q xs) ≡ list_any q xs
 any_map q [] = refl
 any_map q (x ∷ xs) = ap (λ b. q x || b) (any_map q xs)
 
-any_both : (xs ys : List Bool) → list_any (λ b. b) xs ≡ false → list_any (λ b. b) ys ≡ false → list_any (λ b. b) (xs ++ ys) ≡ false
+pub any_both : (xs ys : List Bool) → list_any (λ b. b) xs ≡ false → list_any (λ b. b) ys ≡ false → list_any (λ b. b) (xs ++ ys) ≡ false
 any_both [] ys h g = g
 any_both (x ∷ xs) ys h g = let h' = neither x (list_any (λ b. b) xs) h in ap (λ t. t || list_any (λ b. b) (xs ++ ys)) h'.0 ∙ any_both xs ys h'.1 g
 
@@ -50,11 +50,11 @@ any_either (x ∷ xs) (y ∷ ys) h g =
     let g' = neither y (list_any (λ b. b) ys) g in
     ap (λ t. (t || y) || list_any (λ b. b) (either_place xs ys)) h'.0 ∙ ap (λ t. t || list_any (λ b. b) (either_place xs ys)) g'.0 ∙ any_either xs ys h'.1 g'.1
 
-nowhere : (k : ℕ) (bs : List Bool) → list_any (λ b. b) bs ≡ false → position_from (λ b. b) k bs ≡ None
+pub nowhere : (k : ℕ) (bs : List Bool) → list_any (λ b. b) bs ≡ false → position_from (λ b. b) k bs ≡ None
 nowhere k [] h = refl
 nowhere k (b ∷ bs) h = let h' = neither b (list_any (λ b. b) bs) h in ap (λ (t : Bool). cond t (Some k) (position_from (λ b. b) (k + 1) bs)) h'.0 ∙ nowhere (k + 1) bs h'.1
 
-no_first : (os : List (Option Malformed)) → AllByRecursion (λ o. o ≡ None) os → first_fault os ≡ None
+pub no_first : (os : List (Option Malformed)) → AllByRecursion (λ o. o ≡ None) os → first_fault os ≡ None
 no_first [] h = refl
 no_first (o ∷ os) h = ap (λ x. either_fault x (first_fault os)) h.0 ∙ no_first os h.1
 
@@ -67,7 +67,7 @@ none_falls_after : {X : Type 0} (key : X → List ℕ) (x : X) (xs : List X) →
 none_falls_after key x [] h = refl
 none_falls_after key x (y ∷ xs) h = ap (λ o. not (is_lt o) || list_any (λ b. b) (falls_after key y xs)) h.0.0 ∙ none_falls_after key y xs h.1
 
-none_falls : {X : Type 0} (key : X → List ℕ) (xs : List X) → Rises key xs → list_any (λ b. b) (falls key xs) ≡ false
+pub none_falls : {X : Type 0} (key : X → List ℕ) (xs : List X) → Rises key xs → list_any (λ b. b) (falls key xs) ≡ false
 none_falls key [] h = refl
 none_falls key (x ∷ xs) h = none_falls_after key x xs h
 
@@ -75,7 +75,7 @@ below_all : (a : Ava) (avas : List Ava) → IsBelowAll a avas → AllByRecursion
 below_all a [] h = tt
 below_all a (b ∷ avas) h = (is_less (bytes_cmp a.attr.name b.attr.name) h.0, below_all a avas h.1)
 
-parts_rise : (avas : List Ava) → AreReadableParts avas → Rises (λ (a : Ava). a.attr.name) avas
+pub parts_rise : (avas : List Ava) → AreReadableParts avas → Rises (λ (a : Ava). a.attr.name) avas
 parts_rise [] h = tt
 parts_rise (a ∷ avas) h = (below_all a avas h.1, parts_rise avas h.2)
 
@@ -96,7 +96,7 @@ no_derived (a ∷ attrs) h =
     ap (λ t. (t || list_any (is_derived_value a.attr) a.vals) || list_any (λ b. b) (map (λ (a : Attr). names_derived a.attr a.vals) attrs)) h.0.plain
     ∙ ap (λ t. t || list_any (λ b. b) (map (λ (a : Attr). names_derived a.attr a.vals) attrs)) h.0.underived ∙ no_derived attrs h.1
 
-no_empty_part : (rdn : Rdn) → rdn.avas ≢ [] → list_any (λ b. b) (parts_of rdn) ≡ false
+pub no_empty_part : (rdn : Rdn) → rdn.avas ≢ [] → list_any (λ b. b) (parts_of rdn) ≡ false
 no_empty_part rdn h = by rdn.avas h
   where
     plain : (avas : List Ava) → list_any (λ b. b) (map (λ _. false) avas) ≡ false
@@ -106,6 +106,14 @@ no_empty_part rdn h = by rdn.avas h
     by : (avas : List Ava) → avas ≢ [] → list_any (λ b. b) (cond (is_empty avas) (true ∷ []) (map (λ _. false) avas)) ≡ false
     by [] f = absurd (f refl)
     by (a ∷ avas) f = plain avas
+
+-- ---- who draws
+
+pub ids_of_supplier : (c : Csn) (u : Uid) → IsDrawnAbove c u → ((c.rid == 0) || (c.rid == 65535)) ≡ false
+ids_of_supplier c u drawn = by drawn.rid drawn.least
+  where
+    by : 0 < c.rid → c.rid < 65535 → ((c.rid == 0) || (c.rid == 65535)) ≡ false
+    by h g = grind (arith, nat_tests)
 
 -- ---- how many
 

@@ -38,7 +38,7 @@ pub by_free : {A G : Type 0} (b : Bool) (n : ℕ) (f : Unit {0} → Result A Lda
 by_free true n f y h g = let n : ⊥ = cc in absurd n
 by_free false n f y h g = g refl h
 
-same_ok : {A : Type 0} (x y : A) → ◌≡◌ {A = Result A LdapResult} (Ok x) (Ok y) → x ≡ y
+pub same_ok : {A : Type 0} (x y : A) → ◌≡◌ {A = Result A LdapResult} (Ok x) (Ok y) → x ≡ y
 same_ok x y h = cc
 
 -- ---- tests of items that are put

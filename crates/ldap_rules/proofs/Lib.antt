@@ -8,3 +8,12 @@ pub mod Named
 pub mod Checked
 pub mod There
 pub mod Written
+pub mod Rdns
+pub mod Shows
+pub mod OwnNames
+pub mod Entries
+pub mod Changed
+pub mod SameNames
+pub mod Told
+pub mod Ops
+pub mod Answered

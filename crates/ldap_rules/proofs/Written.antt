@@ -8,7 +8,6 @@ use Rattle.repl_data.specs.declared.change.Attr.{Attr}
 use Rattle.repl_data.specs.declared.change.Rdn.{Rdn}
 use Rattle.repl_data.specs.declared.change.Body.{Body}
 use Rattle.repl_data.specs.declared.change.Body.TheVariants.{Add}
-use Rattle.repl_data.specs.declared.change.Suffix.{Suffix}
 use Rattle.repl_data.specs.Types.{is_derived_ava}
 use Rattle.repl_data.specs.Check.{weight, fault_of}
 use Rattle.repl_data.specs.View.{DirectoryView, child_of}
@@ -17,15 +16,15 @@ use Rattle.dn_text.specs.declared.fault.DnFault.{DnFault}
 use Rattle.dn_text.specs.Laws.{IsReadable, AreReadable}
 use Rattle.dn_text.specs.Reading.{dn_in}
 use Rattle.ldap_types.specs.declared.request.Control.{Control}
-use Rattle.ldap_types.specs.declared.request.Op.{Op}
-use Rattle.ldap_types.specs.declared.request.Op.TheVariants.{Add as AddEntry}
 use Rattle.ldap_types.specs.declared.request.RawAttr.{RawAttr}
 use Rattle.ldap_types.specs.declared.reply.Identity.{Identity}
 use Rattle.ldap_types.specs.declared.reply.LdapResult.{LdapResult}
 use Rattle.ldap_rules.specs.Case.{◌>>=◌}
 use Rattle.ldap_rules.specs.Names.{rdns_above, count_above, entry_at}
 use Rattle.ldap_rules.specs.Values.{named_keys, attribute_count, attributes_beside, with_name, has_too_many_values, is_class}
-use Rattle.ldap_rules.specs.Verdict.{Writes, is_unknown, is_update_control, is_manager, is_supplier, read_object, within, all_writes, add_body, not_too_heavy, add_verdict, verdict_from, op_verdict}
+use Rattle.ldap_rules.specs.Writes.{is_unknown, is_update_control, is_manager, is_supplier, read_object, within, all_writes, not_too_heavy}
+use Rattle.ldap_rules.specs.Add.{add_body, add_verdict}
+use Rattle.ldap_rules.specs.Verdict.{Writes, adds}
 use Rattle.ldap_rules.specs.Laws.{change_at, needed_at, IsDrawnAbove, has_entry}
 use Rattle.ldap_rules.proofs.Goods.{by_pass, by_free, AreRead, attributes_read}
 use Rattle.ldap_rules.proofs.Checked.{add_sound}
@@ -104,18 +103,18 @@ body_written v object given name (rdn ∷ above) body read cut h light =
       light = light;
     })))))))
 
-add_written : (v : DirectoryView) (suffix : Suffix) (controls : List Control) (bound : Identity) (object : List ℕ) (given : List RawAttr) (body : Body) → add_verdict v suffix controls bound object given ≡ Ok body → IsWritten v object given body
+add_written : (v : DirectoryView) (controls : List Control) (bound : Identity) (object : List ℕ) (given : List RawAttr) (body : Body) → add_verdict v controls bound object given ≡ Ok body → IsWritten v object given body
 unfolding all_writes
-add_written v suffix controls bound object given body h =
-    by_pass (all_writes suffix controls bound object >>= add_body v given) not_too_heavy body h (λ made h1 l.
+add_written v controls bound object given body h =
+    by_pass (all_writes v.suffix controls bound object >>= add_body v given) not_too_heavy body h (λ made h1 l.
     by_free (nat_lt 2097152 (weight made)) 11 _ body l (λ light e.
     let same : made ≡ body = cc in
-    by_pass (all_writes suffix controls bound object) (add_body v given) made h1 (λ rdns w b.
+    by_pass (all_writes v.suffix controls bound object) (add_body v given) made h1 (λ rdns w b.
     by_free (list_any is_unknown controls) 12 _ rdns w (λ known w1.
     by_free (list_any is_update_control controls && not (is_supplier bound)) 50 _ rdns w1 (λ own w2.
     by_free (not (is_manager bound)) 50 _ rdns w2 (λ manager w3.
     by_pass (read_object (dn_in object)) _ rdns w3 (λ name r c.
-    subst (IsWritten v object given) same (body_written v object given name rdns made (read_as (dn_in object) name r) (cut_at (dn_in suffix.name) name rdns c) b light))))))))
+    subst (IsWritten v object given) same (body_written v object given name rdns made (read_as (dn_in object) name r) (cut_at (dn_in v.suffix) name rdns c) b light))))))))
 
 -- what a verdict that writes is
 pub record IsAdd (v : DirectoryView) (target : Option Uid) (body : Body) : Type 0 where
@@ -124,15 +123,14 @@ pub record IsAdd (v : DirectoryView) (target : Option Uid) (body : Body) : Type 
   pub written : IsWritten v object given body
   pub no_target : target ≡ None
 
-from_made : (made : Result Body LdapResult) (target : Option Uid) (body : Body) → verdict_from None made ≡ Writes target body → (made ≡ Ok body) × (target ≡ None)
+from_made : (made : Result Body LdapResult) (target : Option Uid) (body : Body) → adds made ≡ Writes target body → (made ≡ Ok body) × (target ≡ None)
 from_made (Ok b) target body h = let e : b ≡ body = cc in let t : ◌≡◌ {A = Option Uid} None target = cc in (ap Ok e, sym t)
 from_made (Err r) target body h = let n : ⊥ = cc in absurd n
 
-pub op_written : (v : DirectoryView) (suffix : Suffix) (controls : List Control) (bound : Identity) (op : Op) (target : Option Uid) (body : Body) → op_verdict v suffix controls bound op ≡ Writes target body → IsAdd v target body
-op_written v suffix controls bound (AddEntry object given) target body h =
-    let m = from_made (add_verdict v suffix controls bound object given) target body h in
-    record { object = object; given = given; written = add_written v suffix controls bound object given body m.0; no_target = m.1 }
-op_written v suffix controls bound _ target body h = let n : ⊥ = cc in absurd n
+pub op_added : (v : DirectoryView) (controls : List Control) (bound : Identity) (object : List ℕ) (given : List RawAttr) (target : Option Uid) (body : Body) → adds (add_verdict v controls bound object given) ≡ Writes target body → IsAdd v target body
+op_added v controls bound object given target body h =
+    let m = from_made (add_verdict v controls bound object given) target body h in
+    record { object = object; given = given; written = add_written v controls bound object given body m.0; no_target = m.1 }
 
 first_readable : (rdns : List Rdn) (rdn : Rdn) (rest : List Rdn) → rdns ≡ rdn ∷ rest → AreReadable rdns → AreReadable (rdn ∷ rest)
 first_readable rdns rdn rest e r = subst AreReadable e r
@@ -153,3 +151,9 @@ written_there v target body c a =
     let w = a.written in
     subst (λ (t : Option Uid). has_entry v (needed_at c t body) ≡ true) (sym a.no_target)
     (subst (λ (b : Body). has_entry v (needed_at c None b) ≡ true) (sym w.is) (entry_there v w.above w.parent w.at))
+
+-- whatever its CSN is, it needs its parent
+pub written_needs : (v : DirectoryView) (target : Option Uid) (body : Body) (c d : Csn) → IsAdd v target body → needed_at c target body ≡ needed_at d target body
+written_needs v target body c d a =
+    let w = a.written in
+    subst (λ (b : Body). needed_at c target b ≡ needed_at d target b) (sym w.is) refl

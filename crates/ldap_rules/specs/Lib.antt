@@ -4,5 +4,12 @@ pub mod Names
 pub mod Values
 pub mod Ordered
 pub mod Counting
+pub mod Writes
+pub mod Add
+pub mod Delete
+pub mod Rename
+pub mod Compare
+pub mod Carried
+pub mod SameNames
 pub mod Laws
 pub mod Verdict

@@ -1,33 +1,25 @@
--- THE RULES: what becomes of a write, first case that fits.
-use Rattle.std.specs.Prelude.{◌≡◌, ℕ, Bool, true, false, not, ◌&&◌, nat_lt, List, [], ◌∷◌, codes, is_some, Option, Some, None, Result, Ok, Err}
+-- THE RULES: what becomes of a write or a compare, first case that fits.
+use Rattle.std.specs.Prelude.{◌≡◌, Bool, true, false, ◌&&◌, List, Option, Some, None, Result, Ok, Err}
 use Rattle.std.specs.List.{list_any}
 use Rattle.repl_data.specs.declared.csn.Uid.{Uid}
-use Rattle.repl_data.specs.declared.change.Rdn.{Rdn}
 use Rattle.repl_data.specs.declared.change.Body.{Body}
-use Rattle.repl_data.specs.declared.change.Body.TheVariants.{Add}
-use Rattle.repl_data.specs.declared.change.Suffix.{Suffix}
-use Rattle.repl_data.specs.Order.{bytes_eq}
-use Rattle.repl_data.specs.Types.{is_derived_ava}
-use Rattle.repl_data.specs.Check.{weight}
-use Rattle.repl_data.specs.View.{DirectoryView, child_of}
+use Rattle.repl_data.specs.View.{DirectoryView}
 use Rattle.ldap_types.specs.declared.request.Control.{Control}
 use Rattle.ldap_types.specs.declared.request.Op.{Op}
-use Rattle.ldap_types.specs.declared.request.Op.TheVariants.{Add as AddEntry}
-use Rattle.ldap_types.specs.declared.request.RawAttr.{RawAttr}
+use Rattle.ldap_types.specs.declared.request.Op.TheVariants.{Add as AddEntry, Delete, Rename, Compare}
 use Rattle.ldap_types.specs.declared.request.Request.{Request}
 use Rattle.ldap_types.specs.declared.reply.Identity.{Identity}
-use Rattle.ldap_types.specs.declared.reply.Identity.TheVariants.{Manager, Supplier}
 use Rattle.ldap_types.specs.declared.reply.LdapResult.{LdapResult}
-use Rattle.dn_text.specs.declared.name.Dn.{Dn}
-use Rattle.dn_text.specs.declared.fault.DnFault.{DnFault}
-use Rattle.dn_text.specs.Reading.{dn_in}
 use Rattle.ldap_rules.specs.declared.fault.JudgeFault.{JudgeFault}
 use Rattle.ldap_rules.specs.declared.fault.JudgeFault.TheVariants.{NoMemory, Refused}
 use Rattle.ldap_rules.specs.declared.fault.Judged.{Judged}
 use Rattle.ldap_rules.specs.declared.fault.Judged.TheVariants.{Write, Answer}
-use Rattle.ldap_rules.specs.Case.{◌>>=◌, refuse, refuse_if}
-use Rattle.ldap_rules.specs.Names.{rdns_above, entry_at}
-use Rattle.ldap_rules.specs.Values.{attribute_count, attributes_beside, with_name, has_too_many_values, is_class}
+use Rattle.ldap_rules.specs.Case.{refuse}
+use Rattle.ldap_rules.specs.Add.{add_verdict}
+use Rattle.ldap_rules.specs.Delete.{delete_verdict}
+use Rattle.ldap_rules.specs.Rename.{rename_verdict}
+use Rattle.ldap_rules.specs.Compare.{compare_verdict}
+pub use Rattle.ldap_rules.specs.Writes.{is_update_control, is_supplier}
 
 -- what becomes of a request: it is refused, or this change of this entry is to be made (an add makes a new one),
 -- or it is answered and changes nothing
@@ -36,89 +28,58 @@ pub data Verdict : Type 0 where
   Writes : Option Uid → Body → Verdict
   Answers : LdapResult → Verdict
 
--- ---- who asks, and how
-
--- the control of an update that one server sends to another
-abbrev pub is_update_control : Control → Bool
-is_update_control c = bytes_eq c.oid (codes "2.999.389.3")
-
-abbrev pub is_unknown : Control → Bool
-is_unknown c = c.critical && not (is_update_control c)
-
-abbrev pub is_manager : Identity → Bool
-is_manager Manager = true
-is_manager _ = false
-
-abbrev pub is_supplier : Identity → Bool
-is_supplier Supplier = true
-is_supplier _ = false
-
 -- an update of another server, which no rule of this module judges
 abbrev pub is_update : Request → Identity → Bool
 is_update r bound = is_supplier bound && list_any is_update_control r.controls
 
--- the operations whose rules are written here
+-- the operations whose rules are written here: those that write
+abbrev pub is_change : Op → Bool
+is_change (AddEntry object given) = true
+is_change (Delete object) = true
+is_change (Rename object new_rdn delete_old new_superior) = true
+is_change _ = false
+
+-- and a compare
+abbrev pub is_judged : Op → Bool
+is_judged (Compare object name value) = true
+is_judged (AddEntry object given) = true
+is_judged (Delete object) = true
+is_judged (Rename object new_rdn delete_old new_superior) = true
+is_judged _ = false
+
+-- those that are carried out so far
 abbrev pub is_built : Op → Bool
 is_built (AddEntry object attrs) = true
 is_built _ = false
 
--- ---- ALL WRITES, in their order: the RDNs of the name above the suffix, the entry's own first
-
-abbrev pub read_object : Result Dn DnFault → Result Dn LdapResult
-read_object (Ok dn) = Ok dn
-read_object (Err e) = refuse 34
-
-abbrev pub within : Option (List Rdn) → Result (List Rdn) LdapResult
-within (Some rdns) = Ok rdns
-within None = refuse 32
-
-unfoldable pub all_writes : Suffix → List Control → Identity → List ℕ → Result (List Rdn) LdapResult
-all_writes suffix controls bound object =
-    refuse_if (list_any is_unknown controls) 12 >>= λ _.
-    refuse_if (list_any is_update_control controls && not (is_supplier bound)) 50 >>= λ _.
-    refuse_if (not (is_manager bound)) 50 >>= λ _.
-    read_object (dn_in object) >>= λ name.
-    within (rdns_above (dn_in suffix.name) name)
-
--- ---- ADD, in their order
-
-unfoldable pub add_body : DirectoryView → List RawAttr → List Rdn → Result Body LdapResult
-add_body v given [] = refuse 68
-add_body v given (rdn ∷ above) =
-    refuse_if (list_any is_derived_ava rdn.avas) 64 >>= λ _.
-    entry_at v above >>= λ parent.
-    refuse_if (is_some (child_of v parent rdn)) 68 >>= λ _.
-    refuse_if (nat_lt 500 (attribute_count rdn given)) 11 >>= λ _.
-    attributes_beside [] given >>= λ attrs.
-    let whole = with_name rdn attrs in
-    refuse_if (list_any has_too_many_values whole) 19 >>= λ _.
-    refuse_if (not (list_any is_class whole)) 65 >>= λ _.
-    Ok (Add parent rdn whole)
-
--- ---- last for every write
-
-abbrev pub not_too_heavy : Body → Result Body LdapResult
-not_too_heavy body = refuse_if (nat_lt 2097152 (weight body)) 11 >>= λ _. Ok body
-
 -- ---- the whole
 
-abbrev pub verdict_from : Option Uid → Result Body LdapResult → Verdict
-verdict_from target (Ok body) = Writes target body
-verdict_from target (Err r) = Refuses r
+-- a new entry
+abbrev pub adds : Result Body LdapResult → Verdict
+adds (Ok body) = Writes None body
+adds (Err r) = Refuses r
 
--- an add: the cases of all writes, those of an add, and the last one
-abbrev pub add_verdict : DirectoryView → Suffix → List Control → Identity → List ℕ → List RawAttr → Result Body LdapResult
-add_verdict v suffix controls bound object given =
-    all_writes suffix controls bound object >>= add_body v given >>= not_too_heavy
+-- a change of an entry that is there
+abbrev pub changes : Result (Uid × Body) LdapResult → Verdict
+changes (Ok change) = Writes (Some change.0) change.1
+changes (Err r) = Refuses r
 
--- the verdict by the operation. (No call has an operation that is not built.)
-abbrev pub op_verdict : DirectoryView → Suffix → List Control → Identity → Op → Verdict
-op_verdict v suffix controls bound (AddEntry object given) = verdict_from None (add_verdict v suffix controls bound object given)
-op_verdict v suffix controls bound _ = verdict_from None (refuse 53)
+-- an answer that changes nothing
+abbrev pub answers : Result LdapResult LdapResult → Verdict
+answers (Ok r) = Answers r
+answers (Err r) = Refuses r
+
+-- the verdict by the operation. (No call has an operation that is not judged.)
+abbrev pub op_verdict : DirectoryView → List Control → Identity → Op → Verdict
+op_verdict v controls bound (AddEntry object given) = adds (add_verdict v controls bound object given)
+op_verdict v controls bound (Delete object) = changes (delete_verdict v controls bound object)
+op_verdict v controls bound (Rename object new_rdn delete_old new_superior) = changes (rename_verdict v controls bound object new_rdn delete_old new_superior)
+op_verdict v controls bound (Compare object name value) = answers (compare_verdict v controls object name value)
+op_verdict v controls bound _ = adds (refuse 53)
 
 -- THE VERDICT on a request
-abbrev pub verdict_of : DirectoryView → Suffix → Request → Identity → Verdict
-verdict_of v suffix request bound = op_verdict v suffix request.controls bound request.op
+abbrev pub verdict_of : DirectoryView → Request → Identity → Verdict
+verdict_of v request bound = op_verdict v request.controls bound request.op
 
 -- what the code answers is the verdict, unless memory ran out
 abbrev pub IsVerdict : Result Judged JudgeFault → Verdict → Type 0

@@ -3,7 +3,7 @@
 ghost use Rattle.std.specs.Prelude.{◌≡◌, ◌∷◌, is_some, IfOk};
 ghost use Rattle.repl_data.specs.View.{child_of};
 ghost use Rattle.ldap_rules.specs.Case.{Gives};
-ghost use Rattle.ldap_rules.specs.Verdict.{add_body};
+ghost use Rattle.ldap_rules.specs.Add.{add_body, add_verdict};
 
 use crate::attributes::{any_has_too_many_values, attributes, has_class, with_name};
 use crate::case::{refuse_if, refused};
@@ -11,7 +11,8 @@ use crate::counting::has_too_many;
 use crate::derived::has_derived_part;
 use crate::fault::JudgeFault;
 use crate::walk::entry_at;
-use ldap_types::{Code, RawAttr};
+use crate::writes::{all_writes, not_too_heavy};
+use ldap_types::{Code, Control, Identity, RawAttr};
 use repl_data::{Body, NoMemory, Rdn, Uid, View};
 use std::alloc::Global;
 
@@ -33,7 +34,7 @@ fn copy(rdn: &Rdn) -> Result<Rdn, NoMemory>
 }
 
 /// What an add of a name makes, which is this relative name and those above it up to the suffix.
-#[tactic(auto, unfolding(crate::specs::Verdict::add_body))]
+#[tactic(auto, unfolding(crate::specs::Add::add_body))]
 fn add_below<V: View>(
     alloc: Global,
     view: &V,
@@ -76,8 +77,8 @@ fn add_below<V: View>(
 }
 
 /// What an add of a name makes, by the relative names above the suffix.
-#[tactic(auto, unfolding(crate::specs::Verdict::add_body))]
-pub(crate) fn add_body<V: View>(
+#[tactic(auto, unfolding(crate::specs::Add::add_body))]
+fn add_body<V: View>(
     alloc: Global,
     view: &V,
     given: &[RawAttr],
@@ -89,4 +90,20 @@ pub(crate) fn add_body<V: View>(
         [] => Err(refused(alloc, Code::ENTRY_ALREADY_EXISTS)),
         [rdn, above @ ..] => add_below(alloc, view, given, rdn, above),
     }
+}
+
+/// What an add makes.
+pub(crate) fn judge_add<V: View>(
+    alloc: Global,
+    view: &V,
+    controls: &[Control],
+    bound: Identity,
+    object: &[u8],
+    given: &[RawAttr],
+) -> Result<Body, JudgeFault>
+    ensures { Gives result (add_verdict (V.view view.now) controls.now bound object.now given.now) }
+{
+    let rdns = all_writes(alloc, view.suffix_name(), controls, bound, object)?;
+    let body = add_body(alloc, view, given, rdns.as_slice())?;
+    not_too_heavy(alloc, body)
 }

@@ -21,7 +21,7 @@ use repl_data::{Attr, AttrKey, AttrList, Ava, Bytes, NoMemory, Rdn, Val, ValList
 use std::alloc::Global;
 
 /// The attribute that the name names.
-fn read_name(alloc: Global, name: &[u8]) -> Result<AttrKey, JudgeFault>
+pub(crate) fn read_name(alloc: Global, name: &[u8]) -> Result<AttrKey, JudgeFault>
     ensures { Gives result (read_name name.now) }
 {
     match attr_key(alloc, name) {
@@ -32,7 +32,7 @@ fn read_name(alloc: Global, name: &[u8]) -> Result<AttrKey, JudgeFault>
 }
 
 /// The value of the attribute that is spelled so.
-fn read_value(alloc: Global, attr: &AttrKey, spelled: &[u8]) -> Result<Val, JudgeFault>
+pub(crate) fn read_value(alloc: Global, attr: &AttrKey, spelled: &[u8]) -> Result<Val, JudgeFault>
     ensures { Gives result (read_value attr.now spelled.now) }
 {
     match value_key(alloc, attr, spelled) {

@@ -1,31 +1,40 @@
-//! What the rules write.
+//! What the rules write and refuse.
 
-ghost use Rattle.std.specs.Prelude.{◌≡◌, ℕ, true, None, Option, List};
+ghost use Rattle.std.specs.Prelude.{◌≡◌, ◌≢◌, ℕ, true, None, Option, List};
+ghost use Rattle.std.specs.List.{list_all};
 ghost use Rattle.repl_data.specs.declared.csn.Csn.{Csn};
 ghost use Rattle.repl_data.specs.declared.csn.Uid.{Uid};
 ghost use Rattle.repl_data.specs.declared.change.Body.{Body};
 ghost use Rattle.repl_data.specs.declared.change.Change.{Change};
 ghost use Rattle.repl_data.specs.declared.change.Suffix.{Suffix};
 ghost use Rattle.repl_data.specs.Check.{fault_of};
-ghost use Rattle.repl_data.specs.Closed.{is_rooted};
+ghost use Rattle.repl_data.specs.Closed.{is_rooted, is_sound};
 ghost use Rattle.repl_data.specs.View.{DirectoryView, view_of};
 ghost use Rattle.ldap_types.specs.declared.reply.Identity.{Identity};
+ghost use Rattle.ldap_types.specs.declared.reply.LdapResult.{LdapResult};
 ghost use Rattle.ldap_types.specs.declared.request.Request.{Request};
-ghost use Rattle.ldap_rules.specs.Verdict.{verdict_of, Writes};
+ghost use Rattle.ldap_rules.specs.Verdict.{verdict_of, Writes, Refuses};
 ghost use Rattle.ldap_rules.specs.Laws.{change_at, needed_at, IsDrawnAbove, has_entry};
 
 use dn_text::dn_laws;
 
-/// What the rules write may be taken.
+/// What the rules write may be taken, and what they refuse has a code.
 pub fn rule_laws()
-    // It passes `check` at each CSN of a supplier that is above the entry that it needs.
-    ensures sound { (v : DirectoryView) (suffix : Suffix) (r : Request) (bound : Identity) (target : Option Uid) (body : Body) (c : Csn) → verdict_of v suffix r bound ≡ Writes target body → IsDrawnAbove c (needed_at c target body) → fault_of (change_at c target body) ≡ None }
+    // On the view of sound changes it passes `check`, at each CSN of a supplier that is above the entry that it
+    // needs.
+    ensures sound { (suffix : Suffix) (changes : List Change) (r : Request) (bound : Identity) (target : Option Uid) (body : Body) (c : Csn) → list_all is_sound changes ≡ true → verdict_of (view_of suffix changes) r bound ≡ Writes target body → IsDrawnAbove c (needed_at c target body) → fault_of (change_at c target body) ≡ None }
 
     // The entry that it needs is the suffix entry, or the view has it.
-    ensures there { (v : DirectoryView) (suffix : Suffix) (r : Request) (bound : Identity) (target : Option Uid) (body : Body) (c : Csn) → verdict_of v suffix r bound ≡ Writes target body → has_entry v (needed_at c target body) ≡ true }
+    ensures there { (v : DirectoryView) (r : Request) (bound : Identity) (target : Option Uid) (body : Body) (c : Csn) → verdict_of v r bound ≡ Writes target body → has_entry v (needed_at c target body) ≡ true }
 
     // So it is known in the changes of which the view is.
-    ensures known { (suffix : Suffix) (changes : List Change) (r : Request) (bound : Identity) (target : Option Uid) (body : Body) (c : Csn) → verdict_of (view_of suffix changes) suffix r bound ≡ Writes target body → is_rooted changes (change_at c target body) ≡ true }
+    ensures known { (suffix : Suffix) (changes : List Change) (r : Request) (bound : Identity) (target : Option Uid) (body : Body) (c : Csn) → verdict_of (view_of suffix changes) r bound ≡ Writes target body → is_rooted changes (change_at c target body) ≡ true }
+
+    // Which entry that is does not hang on the CSN.
+    ensures one_need { (v : DirectoryView) (r : Request) (bound : Identity) (target : Option Uid) (body : Body) (c d : Csn) → verdict_of v r bound ≡ Writes target body → needed_at c target body ≡ needed_at d target body }
+
+    // No refusal has the code 0.
+    ensures refuses { (v : DirectoryView) (r : Request) (bound : Identity) (answer : LdapResult) → verdict_of v r bound ≡ Refuses answer → answer.code.number ≢ 0 }
 {
     dn_laws();
 }

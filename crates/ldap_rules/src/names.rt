@@ -4,17 +4,17 @@ ghost use Rattle.std.specs.Prelude.{◌≡◌, ◌≤◌, IfOk, IfSome, length, 
 ghost use Rattle.dn_text.specs.Reading.{dn_in};
 ghost use Rattle.ldap_rules.specs.Case.{Gives};
 ghost use Rattle.ldap_rules.specs.Names.{same_keys, count_above, rdns_above, have_same_keys, is_named};
-ghost use Rattle.ldap_rules.specs.Verdict.{read_object, within};
+ghost use Rattle.ldap_rules.specs.Writes.{read_object, within};
 
 use crate::case::refused;
 use crate::fault::JudgeFault;
 use dn_text::{Dn, DnFault, RdnList, read_dn};
 use ldap_types::Code;
-use repl_data::{Bytes, NoMemory, Suffix};
+use repl_data::{Bytes, NoMemory};
 use std::alloc::Global;
 
 /// How many relative names stand above the suffix.
-fn count_above(name: &Dn, suffix: &Dn) -> Option<usize>
+pub(crate) fn count_above(name: &Dn, suffix: &Dn) -> Option<usize>
     ensures value { result ≡ count_above name.now suffix.now }
     ensures fits { IfSome result (λ count. count ≤ length name.now.rdns) }
 {
@@ -57,10 +57,10 @@ fn cut(alloc: Global, name: Dn, suffix: &Dn) -> Result<RdnList, JudgeFault>
 }
 
 /// The relative names of a name above the suffix, the entry's own first.
-pub(crate) fn rdns_above(alloc: Global, name: Dn, suffix: &Suffix) -> Result<RdnList, JudgeFault>
-    ensures { Gives result (within (rdns_above (dn_in suffix.now.name) name)) }
+pub(crate) fn rdns_above(alloc: Global, name: Dn, suffix: &[u8]) -> Result<RdnList, JudgeFault>
+    ensures { Gives result (within (rdns_above (dn_in suffix.now) name)) }
 {
-    match read_dn(alloc, suffix.name.as_slice()) {
+    match read_dn(alloc, suffix) {
         Ok(suffix) => cut(alloc, name, &suffix),
         Err(DnFault::NoMemory) => Err(JudgeFault::NoMemory),
         Err(DnFault::BadDn { .. }) => Err(refused(alloc, Code::NO_SUCH_OBJECT)),

@@ -2,25 +2,26 @@
 
 use crate::requests::{read_add, read_identity};
 use case_lines::{CaseFault, Fields, tell_text};
-use ldap_rules::{Identity, JudgeFault, Judged, is_built, is_update, judge};
+use ldap_rules::{Identity, JudgeFault, Judged, is_change, is_judged, is_update, judge};
 use ldap_types::{LdapResult, Request};
 use plain_view::PlainView;
-use repl_data::Suffix;
 use std::alloc::Global;
 use std::fmt::Write;
 
-/// Judges an add; an operation that is not judged answers no case.
+/// Judges a write or a compare; an operation that is not judged answers no case.
 pub fn judged(
     alloc: Global,
     view: &PlainView,
-    suffix: &Suffix,
     request: &Request,
     bound: Identity,
 ) -> Result<Judged, JudgeFault> {
-    if !is_built(&request.op) || is_update(request, bound) {
+    if !is_judged(&request.op) {
         return Err(JudgeFault::NoMemory);
     }
-    judge(alloc, view, suffix, request, bound)
+    if is_change(&request.op) && is_update(request, bound) {
+        return Err(JudgeFault::NoMemory);
+    }
+    judge(alloc, view, request, bound)
 }
 
 /// Appends the code, and the matched name and the text where there is one.
@@ -39,7 +40,10 @@ pub fn tell_refusal(told: &mut String, answer: &LdapResult) -> Result<(), CaseFa
 }
 
 /// Appends the refusal, and `0` for what is not refused.
-fn tell_judged(told: &mut String, judged: &Result<Judged, JudgeFault>) -> Result<(), CaseFault> {
+pub fn tell_judged(
+    told: &mut String,
+    judged: &Result<Judged, JudgeFault>,
+) -> Result<(), CaseFault> {
     match judged {
         Ok(_) => {
             told.push_str("0")?;
@@ -54,12 +58,11 @@ fn tell_judged(told: &mut String, judged: &Result<Judged, JudgeFault>) -> Result
 pub fn refusal(
     alloc: Global,
     view: &PlainView,
-    suffix: &Suffix,
     fields: &mut Fields<'_>,
     told: &mut String,
 ) -> Result<(), CaseFault> {
     let bound = read_identity(fields.word()?)?;
     let request = read_add(alloc, fields)?;
-    let judged = judged(alloc, view, suffix, &request, bound);
+    let judged = judged(alloc, view, &request, bound);
     tell_judged(told, &judged)
 }

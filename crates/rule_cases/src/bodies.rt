@@ -6,7 +6,7 @@ use case_lines::{CaseFault, Fields};
 use case_views::tell_optional_uid;
 use ldap_rules::{Identity, JudgeFault, Judged};
 use plain_view::PlainView;
-use repl_data::{Attr, Body, Bytes, Rdn, Suffix, Val};
+use repl_data::{Attr, Ava, Body, Bytes, Rdn, Val};
 use std::alloc::Global;
 use std::str;
 
@@ -28,14 +28,19 @@ fn tell_val(told: &mut String, val: &Val) -> Result<(), CaseFault> {
     tell(told, &val.spelled)
 }
 
-/// Appends the parts of the relative name, each with a plus sign behind it.
-fn tell_rdn(told: &mut String, rdn: &Rdn) -> Result<(), CaseFault> {
-    for ava in rdn.avas.as_slice() {
+/// Appends parts of a relative name, each with a plus sign behind it.
+pub fn tell_parts(told: &mut String, avas: &[Ava]) -> Result<(), CaseFault> {
+    for ava in avas {
         tell(told, &ava.attr.name)?;
         tell_val(told, &ava.val)?;
         told.push_str("+")?;
     }
     Ok(())
+}
+
+/// Appends the parts of the relative name.
+pub fn tell_rdn(told: &mut String, rdn: &Rdn) -> Result<(), CaseFault> {
+    tell_parts(told, rdn.avas.as_slice())
 }
 
 /// Appends the attributes, each with a bar before it.
@@ -75,11 +80,10 @@ fn tell_written(told: &mut String, judged: &Result<Judged, JudgeFault>) -> Resul
 pub fn written(
     alloc: Global,
     view: &PlainView,
-    suffix: &Suffix,
     fields: &mut Fields<'_>,
     told: &mut String,
 ) -> Result<(), CaseFault> {
     let request = read_add(alloc, fields)?;
-    let judged = judged(alloc, view, suffix, &request, Identity::Manager);
+    let judged = judged(alloc, view, &request, Identity::Manager);
     tell_written(told, &judged)
 }

@@ -1,9 +1,11 @@
-//! Cases of the rules: who may write, which add is refused and why, and the body of what is written.
+//! Cases of the rules: who may write, which write is refused and why, the body of what is written, and what a
+//! compare is answered.
 #![tactic(auto)]
 
 mod adds;
 mod binds;
 mod bodies;
+mod entries;
 mod requests;
 
 use case_lines::{CaseFault, Fields, Subjects, or_memory, run_cases};
@@ -45,8 +47,12 @@ impl Subjects for Rules {
             }
             "change" => self.taken.take(alloc, fields, told),
             "view" => self.look(alloc, fields.word()?),
-            "add" => adds::refusal(alloc, &self.view, &self.suffix, fields, told),
-            "body" => bodies::written(alloc, &self.view, &self.suffix, fields, told),
+            "add" => adds::refusal(alloc, &self.view, fields, told),
+            "body" => bodies::written(alloc, &self.view, fields, told),
+            "delete" => entries::delete(alloc, &self.view, fields, told),
+            "rename" => entries::rename(alloc, &self.view, fields, told),
+            "rename_code" => entries::rename_code(alloc, &self.view, fields, told),
+            "compare" => entries::compare(alloc, &self.view, fields, told),
             "bind" => binds::answer(alloc, fields, told),
             _ => Err(CaseFault::Subject),
         }

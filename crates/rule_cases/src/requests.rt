@@ -144,7 +144,7 @@ fn read_controls(alloc: Global, text: &[u8]) -> Result<ControlList, NoMemory> {
 }
 
 /// The controls of the next word, or none where it is a dash.
-fn next_controls(alloc: Global, fields: &mut Fields<'_>) -> Result<ControlList, CaseFault> {
+pub fn next_controls(alloc: Global, fields: &mut Fields<'_>) -> Result<ControlList, CaseFault> {
     let mut ahead = *fields;
     if ahead.word()? == "-" {
         *fields = ahead;
@@ -154,11 +154,16 @@ fn next_controls(alloc: Global, fields: &mut Fields<'_>) -> Result<ControlList, 
     or_memory(read_controls(alloc, text.as_slice()))
 }
 
+/// The bytes of the next word.
+pub fn next_bytes(alloc: Global, fields: &mut Fields<'_>) -> Result<Bytes, CaseFault> {
+    let bytes = fields.bytes(alloc)?;
+    or_memory(Bytes::from_slice(alloc, bytes.as_slice()))
+}
+
 /// An add: controls, the name, and attributes.
 pub fn read_add(alloc: Global, fields: &mut Fields<'_>) -> Result<Request, CaseFault> {
     let controls = next_controls(alloc, fields)?;
-    let object = fields.bytes(alloc)?;
-    let object = or_memory(Bytes::from_slice(alloc, object.as_slice()))?;
+    let object = next_bytes(alloc, fields)?;
     let attrs = read_attrs(alloc, fields)?;
     let op = Op::Add { object, attrs };
     Ok(Request {

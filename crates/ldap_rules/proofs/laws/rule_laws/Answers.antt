@@ -1,17 +1,23 @@
 use Rattle.repl_data.specs.View.{view_of}
 use Rattle.ldap_rules.specs.Laws.{needed_at}
 use Rattle.ldap_rules.proofs.There.{entry_known}
-use Rattle.ldap_rules.proofs.Written.{op_written, written_sound, written_there}
+use Rattle.ldap_rules.proofs.Ops.{op_sound, op_there, op_needs}
+use Rattle.ldap_rules.proofs.Answered.{op_tells}
 use Rattle.ldap_rules.proofs.laws.rule_laws.Goals as goal
 
 pub returns-clause-sound : goal.returns-clause-sound
-returns-clause-sound c = λ v suffix r bound target body csn h drawn.
-    written_sound v target body csn c.dn_laws.ensures.read (op_written v suffix r.controls bound r.op target body h) drawn
+returns-clause-sound c = λ suffix changes r bound target body csn sound h drawn.
+    op_sound suffix changes r.controls bound r.op target body csn c.dn_laws.ensures.read sound h drawn
 
 pub returns-clause-there : goal.returns-clause-there
-returns-clause-there c = λ v suffix r bound target body csn h.
-    written_there v target body csn (op_written v suffix r.controls bound r.op target body h)
+returns-clause-there c = λ v r bound target body csn h. op_there v r.controls bound r.op target body csn h
 
 pub returns-clause-known : goal.returns-clause-known
 returns-clause-known c = λ suffix changes r bound target body csn h.
-    entry_known suffix changes (needed_at csn target body) (written_there (view_of suffix changes) target body csn (op_written (view_of suffix changes) suffix r.controls bound r.op target body h))
+    entry_known suffix changes (needed_at csn target body) (op_there (view_of suffix changes) r.controls bound r.op target body csn h)
+
+pub returns-clause-one_need : goal.returns-clause-one_need
+returns-clause-one_need c = λ v r bound target body csn other h. op_needs v r.controls bound r.op target body csn other h
+
+pub returns-clause-refuses : goal.returns-clause-refuses
+returns-clause-refuses c = λ v r bound answer h. op_tells v r.controls bound r.op answer h

@@ -1,0 +1,203 @@
+-- The own name of each entry but the suffix entry is one that a change gave.
+use Rattle.std.proofs.Common.{◌≡◌, ◌⊎◌, inl, inr, Bool, true, false, cond, ◌||◌, List, [], ◌∷◌, ◌++◌, map, refl, sym, ap, subst, ◌∙◌, Option, Some, None}
+use Rattle.std.specs.Prelude.{filter, find, flat_map, option_map, if◌then◌else◌}
+use Rattle.std.specs.List.{AllByRecursion, list_any}
+use Rattle.std.specs.declared.cmp.Ordering.{Ordering}
+use Rattle.std.specs.declared.cmp.Ordering.TheVariants.{Less, Equal, Greater}
+use Rattle.std.specs.Ordering.{is_eq}
+use Rattle.std.proofs.lemmas.Cmp.{tied_itself}
+use Rattle.repl_data.specs.declared.csn.Csn.{Csn}
+use Rattle.repl_data.specs.declared.csn.Uid.{Uid}
+use Rattle.repl_data.specs.declared.change.Attr.{Attr}
+use Rattle.repl_data.specs.declared.change.Rdn.{Rdn}
+use Rattle.repl_data.specs.declared.change.Body.{Body}
+use Rattle.repl_data.specs.declared.change.Body.TheVariants.{Add, Mod as Modify, Ren, Del}
+use Rattle.repl_data.specs.declared.change.Change.{Change}
+use Rattle.repl_data.specs.declared.change.Suffix.{Suffix}
+use Rattle.repl_data.specs.Order.{csn_lt, uid_cmp, uid_eq, suffix_id, zero_csn, latest_or, put_by, by_order, in_order}
+use Rattle.repl_data.specs.Stamps.{of_entry}
+use Rattle.repl_data.specs.Facts.{EntryFacts, entry_facts, names_given, ids_added, added_ids, ids_known, all_facts}
+use Rattle.repl_data.specs.Presence.{is_live, is_child, present_of, gone_of}
+use Rattle.repl_data.specs.View.{DirectoryView, PresentEntry, Tombstone, present_at, gone_at, first_of_two, name_of, view_of}
+use Rattle.repl_data.proofs.Orders.{uid_total, uid_exact}
+use Rattle.repl_data.proofs.CsnTests.{csn_lt-zero}
+use Rattle.repl_data.proofs.InOrder.{either_true, is_equal}
+use Rattle.repl_data.proofs.Sound.{not_both}
+
+-- ---- all items of a list
+
+pub all_mono : {X : Type 0} (P Q : X → Type 0) → ((x : X) → P x → Q x) → (xs : List X) → AllByRecursion P xs → AllByRecursion Q xs
+all_mono P Q f [] h = tt
+all_mono P Q f (x ∷ xs) h = (f x h.0, all_mono P Q f xs h.1)
+
+pub all_map : {X Y : Type 0} (P : Y → Type 0) (f : X → Y) (xs : List X) → AllByRecursion (λ x. P (f x)) xs → AllByRecursion P (map f xs)
+all_map P f [] h = tt
+all_map P f (x ∷ xs) h = (h.0, all_map P f xs h.1)
+
+pub all_append : {X : Type 0} (P : X → Type 0) (xs ys : List X) → AllByRecursion P xs → AllByRecursion P ys → AllByRecursion P (xs ++ ys)
+all_append P [] ys h g = g
+all_append P (x ∷ xs) ys h g = (h.0, all_append P xs ys h.1 g)
+
+pub all_filter : {X : Type 0} (P : X → Type 0) (q : X → Bool) (xs : List X) → AllByRecursion P xs → AllByRecursion P (filter q xs)
+all_filter P q [] h = tt
+all_filter P q (x ∷ xs) h = by (q x) (all_filter P q xs h.1)
+  where
+    by : (b : Bool) → AllByRecursion P (filter q xs) → AllByRecursion P (cond b (x ∷ filter q xs) (filter q xs))
+    by true g = (h.0, g)
+    by false g = g
+
+all_put : (P : Uid → Type 0) (u : Uid) (us : List Uid) → P u → AllByRecursion P us → AllByRecursion P (put_by (λ (w : Uid). w) uid_cmp u us)
+all_put P u [] p h = (p, tt)
+all_put P u (w ∷ us) p h = by (uid_cmp u w) (all_put P u us p h.1)
+  where
+    by : (o : Ordering) → AllByRecursion P (put_by (λ (w : Uid). w) uid_cmp u us) → AllByRecursion P (by_order o (u ∷ w ∷ us) (u ∷ us) (w ∷ put_by (λ (w : Uid). w) uid_cmp u us))
+    by Less g = (p, h)
+    by Equal g = (p, h.1)
+    by Greater g = (h.0, g)
+
+pub all_in_order : (P : Uid → Type 0) (us : List Uid) → AllByRecursion P us → AllByRecursion P (in_order uid_cmp us)
+all_in_order P [] h = tt
+all_in_order P (u ∷ us) h = all_put P u (in_order uid_cmp us) h.0 (all_in_order P us h.1)
+
+either_right : (a b : Bool) → b ≡ true → (a || b) ≡ true
+either_right true b h = refl
+either_right false b h = h
+
+each_is_there : (us : List Uid) → AllByRecursion (λ u. list_any (uid_eq u) us ≡ true) us
+each_is_there [] = tt
+each_is_there (w ∷ us) = (
+  ap (λ o. is_eq o || list_any (uid_eq w) us) (tied_itself uid_total w),
+  all_mono (λ u. list_any (uid_eq u) us ≡ true) (λ u. list_any (uid_eq u) (w ∷ us) ≡ true) (λ u h. either_right (uid_eq u w) (list_any (uid_eq u) us) h) us (each_is_there us),
+)
+
+-- ---- the latest of what was given
+
+picked : {X : Type 0} (P : Csn × X → Type 0) (none : X) (x : Csn × X) (xs : List (Csn × X)) → P x → AllByRecursion P xs → P (latest_or (zero_csn, none) (x ∷ xs))
+picked P none x [] h g = subst (λ b. P (if b then (zero_csn, none) else x)) (sym (csn_lt-zero x.0)) h
+picked P none x (y ∷ ys) h g = by (csn_lt x.0 (latest_or (zero_csn, none) (y ∷ ys)).0) (picked P none y ys g.0 g.1)
+  where
+    by : (b : Bool) → P (latest_or (zero_csn, none) (y ∷ ys)) → P (if b then latest_or (zero_csn, none) (y ∷ ys) else x)
+    by true k = k
+    by false k = h
+
+picked_some : {X : Type 0} (P : Csn × X → Type 0) (none : X) (xs : List (Csn × X)) → (xs ≡ [] → ⊥) → AllByRecursion P xs → P (latest_or (zero_csn, none) xs)
+picked_some P none [] n h = absurd (n refl)
+picked_some P none (x ∷ xs) n h = picked P none x xs h.0 h.1
+
+-- ---- what the changes of an entry give
+
+abbrev own_names : List Change → Uid → List (Csn × Rdn)
+own_names xs u = flat_map (λ (c : Change). names_given c.csn c.body) (of_entry xs u)
+
+-- the names that a change gives are such
+abbrev pub Names : (Rdn → Type 0) → Change → Type 0
+Names P c = AllByRecursion (λ (p : Csn × Rdn). P p.1) (names_given c.csn c.body)
+
+abbrev names_with : Bool → Change → List Change → Uid → List (Csn × Rdn)
+names_with b x xs u = flat_map (λ (c : Change). names_given c.csn c.body) (cond b (x ∷ of_entry xs u) (of_entry xs u))
+
+own_names-such : (P : Rdn → Type 0) (xs : List Change) (u : Uid) → AllByRecursion (Names P) xs → AllByRecursion (λ (p : Csn × Rdn). P p.1) (own_names xs u)
+own_names-such P [] u h = tt
+own_names-such P (x ∷ xs) u h = by (uid_eq x.target u) (own_names-such P xs u h.1)
+  where
+    by : (b : Bool) → AllByRecursion (λ (p : Csn × Rdn). P p.1) (own_names xs u) → AllByRecursion (λ (p : Csn × Rdn). P p.1) (names_with b x xs u)
+    by true g = all_append (λ (p : Csn × Rdn). P p.1) (names_given x.csn x.body) (own_names xs u) h.0 g
+    by false g = g
+
+not_nothing : {X : Type 0} (x : X) (xs : List X) → x ∷ xs ≡ [] → ⊥
+not_nothing x xs e = cc
+
+behind_some : {X : Type 0} (ps qs : List X) → (qs ≡ [] → ⊥) → ps ++ qs ≡ [] → ⊥
+behind_some [] qs n e = n e
+behind_some (p ∷ ps) qs n e = not_nothing p (ps ++ qs) e
+
+more_names : (b : Bool) (x : Change) (xs : List Change) (u : Uid) → (own_names xs u ≡ [] → ⊥) → names_with b x xs u ≡ [] → ⊥
+more_names true x xs u n = behind_some (names_given x.csn x.body) (own_names xs u) n
+more_names false x xs u n = n
+
+names_of_add : (x : Change) (xs : List Change) (u : Uid) (parent : Uid) (rdn : Rdn) (attrs : List Attr) → x.body ≡ Add parent rdn attrs → x.target ≡ u → own_names (x ∷ xs) u ≡ [] → ⊥
+names_of_add x xs u parent rdn attrs k t e =
+    let same : uid_eq x.target u ≡ true = subst (λ w. uid_eq x.target w ≡ true) t (ap is_eq (tied_itself uid_total x.target)) in
+    not_nothing (x.csn, rdn) (own_names xs u)
+    (sym (ap (λ b. names_with b x xs u) same ∙ ap (λ w. names_given x.csn w ++ own_names xs u) k) ∙ e)
+
+names_after : (x : Change) (xs : List Change) (u : Uid) (b : Body) → x.body ≡ b → list_any (uid_eq u) (ids_added x.target b ++ added_ids xs) ≡ true
+    → (list_any (uid_eq u) (added_ids xs) ≡ true → own_names xs u ≡ [] → ⊥) → own_names (x ∷ xs) u ≡ [] → ⊥
+names_after x xs u (Add parent rdn attrs) k g rest =
+    either_true (uid_eq u x.target) _ g
+    (λ own. names_of_add x xs u parent rdn attrs k (sym (uid_exact u x.target (is_equal _ own))))
+    (λ a. more_names (uid_eq x.target u) x xs u (rest a))
+names_after x xs u (Modify mods) k g rest = more_names (uid_eq x.target u) x xs u (rest g)
+names_after x xs u (Ren rdn dropped) k g rest = more_names (uid_eq x.target u) x xs u (rest g)
+names_after x xs u Del k g rest = more_names (uid_eq x.target u) x xs u (rest g)
+
+-- an entry that was added has been given a name
+added_named : (xs : List Change) (u : Uid) → list_any (uid_eq u) (added_ids xs) ≡ true → own_names xs u ≡ [] → ⊥
+added_named [] u h e = not_both false h refl
+added_named (x ∷ xs) u h e = names_after x xs u x.body refl h (added_named xs u) e
+
+-- ---- the entries
+
+abbrev Such : (Rdn → Type 0) → Uid → Rdn → Type 0
+Such P u rdn = (uid_eq u suffix_id ≡ true) ⊎ P rdn
+
+abbrev FactsSuch : (Rdn → Type 0) → EntryFacts → Type 0
+FactsSuch P e = Such P e.id e.rdn
+
+module _ (P : Rdn → Type 0) (suffix : Suffix) (xs : List Change) (given : AllByRecursion (Names P) xs) where
+  facts_such : (u : Uid) → (uid_eq u suffix_id ≡ true) ⊎ (list_any (uid_eq u) (added_ids xs) ≡ true) → FactsSuch P (entry_facts suffix xs u)
+  facts_such u (inl s) = inl s
+  facts_such u (inr a) = inr (picked_some (λ (p : Csn × Rdn). P p.1) suffix.rdn (own_names xs u) (added_named xs u a) (own_names-such P xs u given))
+
+  all_such : AllByRecursion (FactsSuch P) (all_facts suffix xs)
+  all_such =
+      all_map (FactsSuch P) (entry_facts suffix xs) (ids_known xs)
+      (all_mono (λ u. (uid_eq u suffix_id ≡ true) ⊎ (list_any (uid_eq u) (added_ids xs) ≡ true)) (λ u. FactsSuch P (entry_facts suffix xs u)) facts_such (ids_known xs)
+      (all_in_order (λ u. (uid_eq u suffix_id ≡ true) ⊎ (list_any (uid_eq u) (added_ids xs) ≡ true)) (suffix_id ∷ added_ids xs)
+      (inl refl, all_mono (λ u. list_any (uid_eq u) (added_ids xs) ≡ true) (λ u. (uid_eq u suffix_id ≡ true) ⊎ (list_any (uid_eq u) (added_ids xs) ≡ true)) (λ u h. inr h) (added_ids xs) (each_is_there (added_ids xs)))))
+
+pub present_such : (P : EntryFacts → Type 0) (es : List EntryFacts) → AllByRecursion P es → AllByRecursion P (present_of es)
+present_such P [] h = tt
+present_such P (e ∷ above) h = by (is_live e || list_any (is_child e.id) (present_of above)) (present_such P above h.1)
+  where
+    by : (b : Bool) → AllByRecursion P (present_of above) → AllByRecursion P (if b then e ∷ present_of above else present_of above)
+    by true g = (h.0, g)
+    by false g = g
+
+-- ---- the view
+
+found_such : {X : Type 0} (id : X → Uid) (name : X → Rdn) (P : Rdn → Type 0) (u : Uid) (es : List X) (e : X) → uid_eq u suffix_id ≡ false → AllByRecursion (λ x. Such P (id x) (name x)) es → find (λ x. uid_eq (id x) u) es ≡ Some e → P (name e)
+found_such id name P u [] e c h g = let n : ⊥ = cc in absurd n
+found_such {X} id name P u (x ∷ es) e c h g = by (uid_eq (id x) u) refl g (found_such id name P u es e c h.1)
+  where
+    own : uid_eq (id x) u ≡ true → Such P (id x) (name x) → P (name x)
+    own s (inl t) = absurd (not_both (uid_eq u suffix_id) (ap (λ w. uid_eq w suffix_id) (sym (uid_exact (id x) u (is_equal _ s))) ∙ t) c)
+    own s (inr p) = p
+
+    by : (b : Bool) → uid_eq (id x) u ≡ b → cond b (Some x) (find (λ y. uid_eq (id y) u) es) ≡ Some e → (find (λ y. uid_eq (id y) u) es ≡ Some e → P (name e)) → P (name e)
+    by true s k more = let at : x ≡ e = cc in subst (λ y. P (name y)) at (own s h.0)
+    by false s k more = more k
+
+abbrev PresentSuch : (Rdn → Type 0) → PresentEntry → Type 0
+PresentSuch P e = Such P e.id e.name
+
+abbrev GoneSuch : (Rdn → Type 0) → Tombstone → Type 0
+GoneSuch P e = Such P e.id e.name
+
+name_such : (P : Rdn → Type 0) (v : DirectoryView) (u : Uid) (rdn : Rdn) → AllByRecursion (PresentSuch P) v.present → AllByRecursion (GoneSuch P) v.gone → uid_eq u suffix_id ≡ false → name_of v u ≡ Some rdn → P rdn
+name_such P v u rdn p g c h = by (present_at v u) refl (gone_at v u) refl h
+  where
+    by : (o : Option PresentEntry) → present_at v u ≡ o → (t : Option Tombstone) → gone_at v u ≡ t → first_of_two (option_map (λ (e : PresentEntry). e.name) o) (option_map (λ (e : Tombstone). e.name) t) ≡ Some rdn → P rdn
+    by (Some e) s t k m = let at : e.name ≡ rdn = cc in subst P at (found_such (λ (x : PresentEntry). x.id) (λ (x : PresentEntry). x.name) P u v.present e c p s)
+    by None s (Some e) k m = let at : e.name ≡ rdn = cc in subst P at (found_such (λ (x : Tombstone). x.id) (λ (x : Tombstone). x.name) P u v.gone e c g k)
+    by None s None k m = let n : ⊥ = cc in absurd n
+
+-- WHAT HOLDS OF EVERY NAME THAT A CHANGE GIVES HOLDS OF THE OWN NAME OF EACH ENTRY BUT THE SUFFIX ENTRY
+pub own_name : (P : Rdn → Type 0) (suffix : Suffix) (xs : List Change) (u : Uid) (rdn : Rdn) → AllByRecursion (Names P) xs → uid_eq u suffix_id ≡ false → name_of (view_of suffix xs) u ≡ Some rdn → P rdn
+own_name P suffix xs u rdn given c h =
+    let es : List EntryFacts = all_facts suffix xs in
+    let such : AllByRecursion (FactsSuch P) es = all_such P suffix xs given in
+    name_such P (view_of suffix xs) u rdn
+    (all_map (PresentSuch P) _ (present_of es) (present_such (FactsSuch P) es such))
+    (all_map (GoneSuch P) _ (gone_of es) (all_filter (FactsSuch P) _ es such))
+    c h

@@ -1,0 +1,6 @@
+pub mod Shown
+pub mod Present
+pub mod Holder
+pub mod Added
+pub mod Effect
+pub mod Accepted
