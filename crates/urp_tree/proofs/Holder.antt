@@ -25,7 +25,7 @@ use Rattle.urp_tree.specs.Index.{who_at, contender, stands_below, wants, wanting
 use Rattle.urp_tree.specs.Rows.{row_at, facts_in}
 use Rattle.urp_tree.specs.Walk.{child_of, children_in}
 use Rattle.urp_tree.specs.Known.{IsTree}
-use Rattle.urp_tree.specs.Seen.{present_entry}
+use Rattle.urp_tree.specs.Seen.{present_entry, is_sought}
 use Rattle.urp_tree.proofs.Settled.{all_present, children_none, others_none}
 use Rattle.urp_tree.proofs.Fits.{no_row}
 use Rattle.urp_tree.proofs.Children.{wanting_same}
@@ -56,13 +56,22 @@ map_map : {X Y Z : Type 0} (g : Y → Z) (f : X → Y) (o : Option X) → option
 map_map g f None = refl
 map_map g f (Some x) = refl
 
-turned : (a b : Rdn) → same_rdn a b ≡ same_rdn b a
+pub turned : (a b : Rdn) → same_rdn a b ≡ same_rdn b a
 turned a b = sym (by (rdn_key_cmp (rdn_key a) (rdn_key b))) ∙ ap is_eq (sym (rdn_key_total.antisymm (rdn_key b) (rdn_key a)))
   where
     by : (o : Ordering) → is_eq (ordering_reverse o) ≡ is_eq o
     by Less = refl
     by Equal = refl
     by Greater = refl
+
+-- the child of a name among the present entries
+pub searched : (present : List EntryFacts) (parent : Uid) (rdn : Rdn) (suffix : List ℕ) (es : List EntryFacts) → present_of es ≡ present → shown_child (view_of_facts suffix es) parent rdn ≡ option_map (λ (e : EntryFacts). e.id) (find (is_sought present parent rdn) present)
+searched present parent rdn suffix es is =
+    ap (λ (ps : List EntryFacts). option_map (λ (e : PresentEntry). e.id) (find (λ (e : PresentEntry). same_rdn e.shown rdn) (filter (is_shown_below parent) (map (present_entry ps) ps)))) is
+    ∙ ap (option_map (λ (e : PresentEntry). e.id))
+    (find_filter (λ (e : PresentEntry). same_rdn e.shown rdn) (is_shown_below parent) (map (present_entry present) present)
+    ∙ find_map (λ (e : PresentEntry). is_shown_below parent e && same_rdn e.shown rdn) (present_entry present) present)
+    ∙ map_map (λ (e : PresentEntry). e.id) (present_entry present) (find (λ (e : EntryFacts). is_sought present parent rdn e) present)
 
 module _ (present : List EntryFacts) (parent : Uid) (rdn : Rdn) (plain : has_id rdn ≡ false) where
   abbrev all : List Contender
@@ -117,12 +126,7 @@ module _ (present : List EntryFacts) (parent : Uid) (rdn : Rdn) (plain : has_id 
       ∙ map_map id_of contender (option_map child_of (find (λ (e : EntryFacts). wants parent rdn (child_of e) && first e) present))
       ∙ map_map (λ (c : Child). c.id) child_of (find (λ (e : EntryFacts). wants parent rdn (child_of e) && first e) present)
       ∙ ap (option_map (λ (e : EntryFacts). e.id)) (find_same (λ (e : EntryFacts). wants parent rdn (child_of e) && first e) (λ (e : EntryFacts). is_child parent e && shows e) each present)
-      ∙ sym
-      (ap (λ (ps : List EntryFacts). option_map (λ (e : PresentEntry). e.id) (find (λ (e : PresentEntry). same_rdn e.shown rdn) (filter (is_shown_below parent) (map (present_entry ps) ps)))) is
-      ∙ ap (option_map (λ (e : PresentEntry). e.id))
-      (find_filter (λ (e : PresentEntry). same_rdn e.shown rdn) (is_shown_below parent) (map (present_entry present) present)
-      ∙ find_map (λ (e : PresentEntry). is_shown_below parent e && same_rdn e.shown rdn) (present_entry present) present)
-      ∙ map_map (λ (e : PresentEntry). e.id) (present_entry present) (find (λ (e : EntryFacts). is_child parent e && shows e) present))
+      ∙ sym (searched present parent rdn suffix es is)
 
 -- below an entry that was never added stands nobody
 module _ (rows : BTreeMap Uid (Option Row)) (tree : IsTree rows None []) (ordered : HasOrderedKeys uid_cmp rows) (suffix : List ℕ) (parent : Uid) (rdn : Rdn) (plain : has_id rdn ≡ false) where

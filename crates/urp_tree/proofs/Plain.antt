@@ -19,6 +19,7 @@ use Rattle.repl_data.specs.Check.{fault_at, faults_of_frame, faults_of_body, der
 use Rattle.repl_data.specs.Closed.{is_sound, needed}
 use Rattle.repl_data.specs.Facts.{EntryFacts, own_facts}
 use Rattle.repl_data.specs.Presence.{is_among_entries}
+use Rattle.repl_data.specs.Text.{IsInRange}
 use Rattle.repl_data.specs.Names.{is_id_part, has_id}
 use Rattle.repl_data.proofs.Sound.{neither, not_true, no_faults}
 use Rattle.repl_data.proofs.CheckLaws.{any-position}
@@ -86,11 +87,12 @@ next_plain : (c : Change) (d : EntryFacts) → is_sound c ≡ true → (uid_eq d
 next_plain c d sound only plain = record {
   root = λ t. (ap (λ (n : Csn × Rdn). n.0) (named_kept c.csn c.body (d.named, d.rdn) (only t)) ∙ (plain.root t).0, parent_kept c.body d.parent (only t) ∙ (plain.root t).1);
   child = λ f. plain_after c.csn c.body d.named d.rdn (sound_names c sound) (plain.child f);
+  range = plain.range;
 }
 
 module _ (rows : BTreeMap Uid (Option Row)) (tree : IsTree rows None []) (ordered : HasOrderedKeys uid_cmp rows) (c : Change) (sound : is_sound c ≡ true)
     (known : is_among_entries (facts_in rows.entries) (needed c.target c.body) ≡ true) (new : is_add c.body ≡ true → is_among_entries (facts_in rows.entries) c.target ≡ false)
-    (e : EntryFacts) (is : (suffix : Suffix) → e ≡ entry_after suffix c (facts_in rows.entries)) where
+    (e : EntryFacts) (is : (suffix : Suffix) → e ≡ entry_after suffix c (facts_in rows.entries)) (range : IsInRange e.id.csn) where
   abbrev unknown : EntryFacts
   unknown = own_facts no_suffix c.target []
 
@@ -103,7 +105,7 @@ module _ (rows : BTreeMap Uid (Option Row)) (tree : IsTree rows None []) (ordere
   pub own_plain : IsPlain e
   own_plain =
       decide (is_add c.body)
-      (λ t. subst IsPlain (sym (added t)) (next_plain c unknown sound only_modify (record { root = λ r. (refl, refl); child = λ f. refl })))
+      (λ t. subst IsPlain (sym (added t)) (next_plain c unknown sound only_modify (record { root = λ r. (refl, refl); child = λ f. refl; range = subst (λ (x : EntryFacts). IsInRange x.id.csn) (added t) range })))
       (λ f. let r = target_row rows tree ordered c sound known new f in
       subst IsPlain (sym (is no_suffix ∙ next_row_of rows tree ordered c sound known new no_suffix r.0 r.1))
       (next_plain c r.0.entry sound (λ t. only_modify (ap (λ (u : Uid). uid_eq u suffix_id) (sym (row_id rows tree ordered c.target r.0 r.1)) ∙ t))

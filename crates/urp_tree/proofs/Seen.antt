@@ -107,6 +107,22 @@ fewer_present u (d ∷ es) h = by (is_live d || list_any (is_child d.id) (presen
     by false false o k more = more k
     by true false o k more = ap (λ b. b || is_among_entries (present_of es) u) o ∙ more k
 
+-- no present entry has the id
+nowhere : (u : Uid) (es : List EntryFacts) → at_id u es ≡ None → AllByRecursion (λ (e : EntryFacts). uid_eq e.id u ≡ false) es
+nowhere u [] h = tt
+nowhere u (e ∷ es) h = by (uid_eq e.id u) refl h (nowhere u es)
+  where
+    by : (b : Bool) → uid_eq e.id u ≡ b → cond b (Some e) (at_id u es) ≡ None → (at_id u es ≡ None → AllByRecursion (λ (d : EntryFacts). uid_eq d.id u ≡ false) es) → AllByRecursion (λ (d : EntryFacts). uid_eq d.id u ≡ false) (e ∷ es)
+    by true k o more = let f : ◌≡◌ {A = Option EntryFacts} (Some e) None = o in cc
+    by false k o more = (k, more o)
+
+pub none_here : (u : Uid) (es : List EntryFacts) → IsPresentRow es u None → AllByRecursion (λ (e : EntryFacts). uid_eq e.id u ≡ false) (present_of es)
+none_here u es h = nowhere u (present_of es) (by (at_id u (present_of es)) (sym (find_map (λ (e : PresentEntry). uid_eq e.id u) (present_entry (present_of es)) (present_of es)) ∙ h []))
+  where
+    by : (o : Option EntryFacts) → option_map (present_entry (present_of es)) o ≡ None → o ≡ None
+    by None k = refl
+    by (Some e) k = let f : ◌≡◌ {A = Option PresentEntry} (Some (present_entry (present_of es) e)) None = k in cc
+
 module _ (rows : BTreeMap Uid (Option Row)) (tree : IsTree rows None []) (ordered : HasOrderedKeys uid_cmp rows) where
   abbrev facts : List EntryFacts
   facts = facts_in rows.entries
@@ -129,6 +145,9 @@ module _ (rows : BTreeMap Uid (Option Row)) (tree : IsTree rows None []) (ordere
 
     pub only : IsOnly u r.entry facts
     only = the_one u r.entry facts tree.rises at
+
+    pub only_present : IsOnly u r.entry present
+    only_present = all_present (λ (e : EntryFacts). uid_eq e.id u ≡ true → e ≡ r.entry) facts only
 
     pub kept : IsKept facts r
     kept = record {

@@ -5,3 +5,4 @@ pub mod Planned
 pub mod Known
 pub mod Climb
 pub mod Seen
+pub mod Listed

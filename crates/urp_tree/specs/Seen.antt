@@ -1,10 +1,11 @@
 -- WHAT A VIEW SHOWS of an entry.
-use Rattle.std.specs.Prelude.{◌≡◌, ℕ, true, false, not, List, ◌∷◌, map, filter, Option, Some, option_map}
+use Rattle.std.specs.Prelude.{◌≡◌, ℕ, Bool, true, false, not, ◌&&◌, List, ◌∷◌, map, filter, Option, Some, option_map}
 use Rattle.std.specs.BTreeMap.{BTreeMap}
 use Rattle.repl_data.specs.declared.csn.Uid.{Uid}
-use Rattle.repl_data.specs.Order.{uid_eq, suffix_id}
+use Rattle.repl_data.specs.declared.change.Rdn.{Rdn}
+use Rattle.repl_data.specs.Order.{uid_eq, suffix_id, same_rdn}
 use Rattle.repl_data.specs.Facts.{EntryFacts, attrs_shown}
-use Rattle.repl_data.specs.Presence.{is_live, present_of, is_among_entries}
+use Rattle.repl_data.specs.Presence.{is_live, is_child, present_of, is_among_entries}
 use Rattle.repl_data.specs.Names.{shown_rdn}
 use Rattle.repl_data.specs.View.{DirectoryView, PresentEntry, Tombstone, view_of_facts, present_at, gone_at, path_of, dn_below}
 use Rattle.stamp_entry.specs.Shown.{users_shown}
@@ -25,6 +26,14 @@ IsPresentRow es u row = (suffix : List ℕ) → present_at (view_of_facts suffix
 
 abbrev pub IsGoneRow : List EntryFacts → Uid → Option Row → Type 0
 IsGoneRow es u row = (suffix : List ℕ) → gone_at (view_of_facts suffix es) u ≡ option_map (λ (r : Row). tombstone r.entry) row
+
+-- the row is in its seat
+abbrev pub IsAt : BTreeMap Uid (Option Row) → Uid → Row → Type 0
+IsAt rows u r = row_at rows u ≡ Some r
+
+-- the entry is a child of this parent and shows this name
+abbrev pub is_sought : List EntryFacts → Uid → Rdn → EntryFacts → Bool
+is_sought present parent rdn e = is_child parent e && same_rdn (shown_rdn present e) rdn
 
 -- what a tree keeps of an entry with its row
 pub record IsKept (es : List EntryFacts) (r : Row) : Type 0 where

@@ -9,7 +9,7 @@ ghost use Rattle.repl_data.specs.Lent.{own_of, standing_of};
 ghost use Rattle.repl_data.specs.Order.{uid_cmp, uid_eq, suffix_id};
 ghost use Rattle.urp_tree.specs.Rows.{row_at, fact_of, facts_in};
 ghost use Rattle.urp_tree.specs.Known.{IsTree};
-ghost use Rattle.urp_tree.specs.Seen.{IsPresentRow, IsGoneRow, IsKept, IsHere, gone_ids};
+ghost use Rattle.urp_tree.specs.Seen.{IsPresentRow, IsGoneRow, IsKept, IsHere, IsAt, gone_ids};
 
 use crate::room::seat_count;
 use crate::row::Row;
@@ -25,6 +25,7 @@ pub(crate) fn present_row(rows: &Rows, id: Uid) -> Option<&Row>
     ensures row { IsPresentRow (facts_in rows.now.entries) id (option_copied result) }
     ensures keeps { IfSome (option_copied result) (IsKept (facts_in rows.now.entries)) }
     ensures here { IfSome (option_copied result) (IsHere (facts_in rows.now.entries)) }
+    ensures at { IfSome (option_copied result) (IsAt rows.now id) }
 {
     let _seats = seat_count(rows);
     let Some(row) = row_of(rows, id) else {

@@ -4,6 +4,8 @@
 mod asked;
 mod child;
 mod laws;
+mod listing;
+mod named;
 mod plan;
 mod room;
 mod row;

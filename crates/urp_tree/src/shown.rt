@@ -27,7 +27,7 @@ fn copied(rdn: &Rdn) -> Result<Rdn, NoMemory>
 }
 
 /// The relative name that a present entry shows. One look-up, and a copy of the name.
-fn shown_name(rows: &Rows, alloc: Global, entry: &StampedEntry) -> Result<Rdn, NoMemory>
+pub(crate) fn shown_name(rows: &Rows, alloc: Global, entry: &StampedEntry) -> Result<Rdn, NoMemory>
     requires tree { IsTree rows.now None [] }
     requires parent { is_among_entries (facts_in rows.now.entries) entry.now.parent ≡ true }
     ensures { IfOk result (λ rdn. rdn ≡ shown_rdn (present_of (facts_in rows.now.entries)) entry.now) }

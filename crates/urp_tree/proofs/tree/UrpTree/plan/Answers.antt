@@ -1,5 +1,7 @@
 use Rattle.std.proofs.Common.{◌≡◌, List, [], true, false, None, Some, length, refl, sym, ap, subst, ◌∙◌}
 use Rattle.std.specs.List.{AllByRecursion}
+use Rattle.repl_data.specs.declared.csn.Uid.{Uid}
+use Rattle.repl_data.specs.Text.{IsInRange}
 use Rattle.repl_data.specs.Closed.{needed}
 use Rattle.repl_data.specs.Facts.{EntryFacts}
 use Rattle.repl_data.specs.Presence.{is_among_entries}
@@ -20,7 +22,7 @@ pub invariant_of-self-2 : goal.invariant_of-self-2
 invariant_of-self-2 c =
     let e : EntryFacts = c.in_ok-row.row.entry in
     let fs : List EntryFacts = facts_in c.forget.new.rows.entries in
-    planned_tree c.prepare.new.rows fs e c.in_ok-steps.steps c.entry_id-target.result c.prepare.ensures.tree c.prepare.ensures.facts
+    planned_tree c.prepare.new.rows fs e c.in_ok-steps.steps c.id_of-target.result c.prepare.ensures.tree c.prepare.ensures.facts
     (small_enough (length fs) c.seat_count-seats.result c.seat_count-seats.ensures.facts c.seat_count-seats.ensures.small)
     c.in_ok-steps.ensures c.in_ok-prepare.ensures.seat
     (subst (λ (ss : List Step). AllByRecursion (RoomFor c.prepare.new.rows) ss) c.as_slice-2.ensures c.in_ok-prepare.ensures.rooms)
@@ -33,10 +35,10 @@ returns-clause-ready c =
     let facts : fs ≡ c.args.self.now.facts = c.forget.ensures.facts ∙ ap (λ (k : Known). k.facts) c.self.view_is in
     let known : is_among_entries fs (needed c.args.change.now.target c.args.change.now.body) ≡ true = ap (λ (es : List EntryFacts). is_among_entries es (needed c.args.change.now.target c.args.change.now.body)) facts ∙ c.requires.known in
     let fresh : is_add c.args.change.now.body ≡ true → is_among_entries fs c.args.change.now.target ≡ false = (λ a. ap (λ (es : List EntryFacts). is_among_entries es c.args.change.now.target) facts ∙ c.requires.fresh a) in
-    let k : Known = record { suffix = c.self.inside.suffix; facts = facts_in c.prepare.new.rows.entries; target = Some c.entry_id-target.result; steps = c.in_ok-steps.steps } in
+    let k : Known = record { suffix = c.self.inside.suffix; facts = facts_in c.prepare.new.rows.entries; target = Some c.id_of-target.result; steps = c.in_ok-steps.steps } in
     subst (IsReadyFor k) (sym c.of.ensures)
-    (planned_ready k fs e c.in_ok-steps.steps c.prepare.ensures.facts (ap Some c.entry_id-target.ensures) refl c.in_ok-steps.ensures
+    (planned_ready k fs e c.in_ok-steps.steps c.prepare.ensures.facts (ap Some c.id_of-target.ensures.id) refl c.in_ok-steps.ensures
     (own_below c.forget.new.rows tree c.seat_count-seats.ensures.ordered c.args.change.now c.requires.sound known fresh e c.in_ok-row.ensures.facts)
     (own_rooted c.forget.new.rows tree c.seat_count-seats.ensures.ordered c.args.change.now c.requires.sound known fresh e c.in_ok-row.ensures.facts)
     (own_root c.forget.new.rows tree c.seat_count-seats.ensures.ordered c.args.change.now c.requires.sound known fresh e c.in_ok-row.ensures.facts)
-    (own_plain c.forget.new.rows tree c.seat_count-seats.ensures.ordered c.args.change.now c.requires.sound known fresh e c.in_ok-row.ensures.facts))
+    (own_plain c.forget.new.rows tree c.seat_count-seats.ensures.ordered c.args.change.now c.requires.sound known fresh e c.in_ok-row.ensures.facts (subst (λ (u : Uid). IsInRange u.csn) c.id_of-target.ensures.id c.id_of-target.ensures.range)))

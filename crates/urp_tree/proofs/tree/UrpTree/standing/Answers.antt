@@ -1,7 +1,0 @@
-use Rattle.std.proofs.Common.{ap, ◌∙◌}
-use Rattle.repl_data.specs.Lent.{standing_of}
-use Rattle.urp_tree.specs.Known.{Known, known_view}
-use Rattle.urp_tree.proofs.tree.UrpTree.standing.Goals as goal
-
-pub returns : goal.returns
-returns c = c.standing.ensures c.self.inside.suffix ∙ ap (λ (k : Known). standing_of (known_view k) c.args.id) c.self.view_is

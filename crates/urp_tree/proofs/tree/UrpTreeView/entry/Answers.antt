@@ -1,0 +1,12 @@
+use Rattle.std.proofs.Common.{ap, ◌∙◌}
+use Rattle.repl_data.specs.View.{view_of_facts, entry_of}
+use Rattle.urp_tree.specs.Rows.{facts_in}
+use Rattle.urp_tree.specs.Known.{Known, known_view}
+use Rattle.urp_tree.proofs.Fits.{on_each}
+use Rattle.urp_tree.proofs.tree.UrpTreeView.entry.Goals as goal
+
+pub returns : goal.returns
+returns c =
+    on_each c.entry.result
+    (λ shown h. h ∙ (λ i. entry_of (view_of_facts (c.as_slice.ensures i) (facts_in c.self.inside.rows.entries)) c.args.id) ∙ ap (λ (k : Known). entry_of (known_view k) c.args.id) c.self.view_is)
+    c.entry.ensures
