@@ -1,0 +1,13 @@
+pub mod Vectors
+pub mod Loops
+pub mod Whole
+pub mod Back
+pub mod Requests
+pub mod Sizes
+pub mod Sessions
+pub mod Carried
+pub mod ControlBack
+pub mod UpdateRequests
+pub mod UpdateBack
+pub mod UpdateSizes
+pub mod Each

@@ -1,0 +1,9 @@
+pub mod Fault
+pub mod Form
+pub mod Value
+pub mod Reading
+pub mod Laws
+pub mod Keys
+pub mod UpdateForm
+pub mod Control
+pub mod Update
