@@ -1,5 +1,5 @@
 //! Cases of the crates of data: elements of BER, keys, names, CSNs, changes, vectors, what a node
-//! draws, and the changelog. The first word of a case names the crate's part, the second the call.
+//! draws, the changelog, and lines of the script. The first word of a case names the crate's part, the second the call.
 #![tactic(auto)]
 
 mod ber;
@@ -7,6 +7,7 @@ mod csns;
 mod draws;
 mod items;
 mod keys;
+mod lines;
 mod log;
 mod names;
 mod vectors;
@@ -35,6 +36,7 @@ impl Subjects for Data {
             "ber" => ber::answer(alloc, fields, told),
             "key" => keys::answer(alloc, fields, told),
             "dn" => names::answer(alloc, fields, told),
+            "line" => lines::answer(alloc, fields, told),
             "csn" => csns::answer(alloc, fields, told),
             "items" => self.items.answer(alloc, fields, told),
             "vector" => vectors::answer(alloc, fields, told),

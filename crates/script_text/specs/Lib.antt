@@ -1,0 +1,5 @@
+pub mod Line
+pub mod Output
+pub mod Print
+pub mod Spelling
+pub mod Words
