@@ -6,11 +6,12 @@ use Rattle.ldap_types.specs.declared.reply.LdapResult.{LdapResult}
 use Rattle.ldap_types.specs.declared.reply.ReplyOp.{ReplyOp}
 use Rattle.ldap_types.specs.declared.reply.Identity.{Identity}
 use Rattle.conn_core.specs.Stream.{first_request, is_unbind, EndsSo}
-use Rattle.conn_core.specs.Serving.{Reach, Session, Serves, IsServed, sent, reply_to, count_starved, used_up}
+use Rattle.conn_core.specs.Serving.{Reach, Session, Serves, IsServed, sent, reply_to, count_starved}
+use Rattle.node_core.specs.Answers.{used_up}
 use Rattle.ldap_replies.specs.Form.{reply_bytes}
 use Rattle.io_edge.specs.declared.machine.Fed.{Fed}
 use Rattle.io_edge.specs.declared.machine.Fed.TheVariants.{Running}
-use Rattle.ldap_requests.specs.Window.{More}
+use Rattle.ber_core.specs.Window.{More}
 use Rattle.conn_core.specs.declared.conn.Conn.{Conn}
 use Rattle.conn_core.specs.Feeding.{session, Carries, CarriesPart, IsCut, StillWait, Feeds, notice_of, held_of, is_end}
 use Rattle.std.proofs.lemmas.List.{drop-drop}

@@ -22,9 +22,8 @@ written_count c now bound request old new _ (aborted ticket back fault result be
 
 serves_count : {N : Type 0} (c : Reach N) (now : ℕ) (bound : Identity) (request : Request) (old new : N) (after : Identity) (result : LdapResult) (o : Op) → Serves c now bound request old new after result o → c.faults old ≤ c.faults new
 serves_count c now bound request old new after result (op.Bind b) h = same_count c old new h.0
-serves_count c now bound request old new after result (op.Add object attrs) h =
+serves_count c now bound request old new after result other h =
     elim h.1 [ inl w ↦ written_count c now bound request old new result w.1 | inr s ↦ same_count c old new s.1 ]
-serves_count c now bound request old new after result other h = same_count c old new h.0
 
 served_count : {N : Type 0} (c : Reach N) (now : ℕ) (requests : List Request) (old new : Session N) → AreServed c now requests old new → c.faults old.node ≤ c.faults new.node
 served_count c now [] old new e = same_count c old.node new.node (ap (λ (x : Session _). x.node) e)

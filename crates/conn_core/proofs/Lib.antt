@@ -10,3 +10,4 @@ pub mod Faults
 pub mod Alone
 pub mod Machines
 pub mod Taking
+pub mod Joining

@@ -17,7 +17,8 @@ use Rattle.node_core.specs.Steps.{Judge, CommitAnswer, Stale, Refused, CommitExh
 use Rattle.node_core.specs.Calls.{Begins, Commits}
 use Rattle.ldap_types.specs.declared.reply.LdapResult.{LdapResult}
 use Rattle.ldap_rules.specs.Case.{result_of}
-use Rattle.conn_core.specs.Serving.{commit_result, used_up}
+use Rattle.conn_core.specs.Serving.{commit_result}
+use Rattle.node_core.specs.Answers.{used_up}
 
 life_of : Node → ℕ
 life_of n = n.life

@@ -2,10 +2,10 @@
 use Rattle.std.proofs.Common.{◌≡◌, ℕ, ◌-◌, ◌<◌, ◌≤◌, false, List, [], ◌∷◌, ◌++◌, length, take, drop, Result, Ok, Err, refl, sym, ap, subst, ◌∙◌, arith, length-drop}
 use Rattle.std.proofs.lemmas.List.{take-append-drop, length-take-le, drop_all, take_all}
 use Rattle.ldap_types.specs.declared.request.Request.{Request}
-use Rattle.ldap_requests.specs.declared.fault.NotLdapWhy.{NotLdapWhy}
-use Rattle.ldap_requests.specs.Window.{Stop, More, Fault, open_as, tag_in}
+use Rattle.ber_core.specs.declared.fault.NotLdapWhy.{NotLdapWhy}
+use Rattle.ber_core.specs.Window.{Stop, More, Fault, open_as, tag_in}
 use Rattle.ldap_requests.specs.Grammar.{request_at}
-use Rattle.ldap_requests.proofs.Sound.{value, element_some}
+use Rattle.ber_core.proofs.Sound.{value, element_some}
 use Rattle.ldap_requests.proofs.SoundMessage.{request_sound}
 use Rattle.ldap_requests.proofs.StableMessage.{request_again, fault_once}
 use Rattle.io_edge.specs.declared.machine.Fed.{Fed}

@@ -1,5 +1,6 @@
 -- What a feed of a connection comes to.
 use Rattle.std.specs.Prelude.{◌≡◌, ◌≤◌, ℕ, Bool, true, false, List, [], ◌∷◌, ◌++◌, length, Result, Ok, Err}
+use Rattle.std.specs.List.{concat}
 use Rattle.repl_data.specs.declared.items.NoMemory.{NoMemory}
 use Rattle.ldap_types.specs.declared.request.Request.{Request}
 use Rattle.ldap_types.specs.declared.reply.Identity.TheVariants.{Anonymous}
@@ -45,6 +46,26 @@ pub record Feeds {N : Type 0} (c : Reach N) (now : ℕ) (piece : List ℕ) (old 
   pub state : session new after ≡ record last { replies = last.replies ++ notice_of fed }
   pub held : new.held ≡ held_of fed left
   pub closed : new.is_closed ≡ is_end fed
+
+-- ---- feeds one behind the other
+
+-- The bytes `first`, and then the others, are fed in turn; each feed but the last leaves the connection running.
+abbrev pub FeedsInTurn : {N : Type 0} → Reach N → ℕ → List ℕ → List (List ℕ) → Conn → N → Fed → Conn → N → Type 0
+FeedsInTurn c now first [] old node fed new after = Feeds c now first old node fed new after
+FeedsInTurn c now first (next ∷ others) old node fed new after =
+    (between : Conn) × (met : _) × Feeds c now first old node Running between met × FeedsInTurn c now next others between met fed new after
+
+-- A feed of two pieces, the first of which leaves the connection running, is one feed of the joined bytes: it carries out the
+-- requests of the one and then those of the other.
+pub record JoinsFeeds {N : Type 0} (c : Reach N) : Type 0 where
+  pub joined : (now : ℕ) (first next : List ℕ) (old between new : Conn) (node met after : N) (fed : Fed) →
+      (a : Feeds c now first old node Running between met) → (b : Feeds c now next between met fed new after) →
+      (whole : Feeds c now (first ++ next) old node fed new after) × (whole.carried.requests ≡ a.carried.requests ++ b.carried.requests)
+  -- so is a feed of any pieces
+  pub pieces : (now : ℕ) (first : List ℕ) (others : List (List ℕ)) (old new : Conn) (node after : N) (fed : Fed) →
+      FeedsInTurn c now first others old node fed new after → Feeds c now (first ++ concat others) old node fed new after
+
+-- ---- want of memory
 
 -- The state is this one, where the last reply may be missing.
 pub record IsCut {N : Type 0} (whole cut : Session N) : Type 0 where

@@ -1,11 +1,9 @@
 -- What a request does, by the calls of a node, and what it is answered.
 use Rattle.std.specs.Prelude.{◌≡◌, ◌≤◌, ◌⊎◌, ℕ, ◌+◌, ◌-◌, ◌^◌, min, ◌==◌, Bool, true, false, not, ◌||◌, if◌then◌else◌, List, [], ◌∷◌, ◌++◌, Option, Some, None, Result, Ok, Err, codes}
-use Rattle.std.specs.List.{list_any}
 use Rattle.repl_data.specs.declared.csn.Csn.{Csn}
 use Rattle.repl_data.specs.declared.items.NoMemory.{NoMemory}
 use Rattle.repl_data.specs.Order.{bytes_eq}
 use Rattle.ldap_types.specs.declared.request.Request.{Request}
-use Rattle.ldap_types.specs.declared.request.Control.{Control}
 use Rattle.ldap_types.specs.declared.request.BindRequest.{BindRequest}
 use Rattle.ldap_types.specs.declared.request.Op.{Op}
 use Rattle.ldap_types.specs.declared.request.Op.TheVariants as op
@@ -17,7 +15,6 @@ use Rattle.ldap_types.specs.declared.reply.Identity.TheVariants.{Anonymous}
 use Rattle.ldap_replies.specs.Form.{reply_bytes}
 use Rattle.ldap_rules.specs.Bind.{bind_verdict}
 use Rattle.ldap_rules.specs.Case.{result_of}
-use Rattle.ldap_rules.specs.Verdict.{is_update_control}
 use Rattle.node_core.specs.declared.fault.BeginFault.{BeginFault}
 use Rattle.node_core.specs.declared.fault.BeginFault.TheVariants as begin
 use Rattle.node_core.specs.declared.fault.CommitFault.{CommitFault}
@@ -25,8 +22,10 @@ use Rattle.node_core.specs.declared.fault.CommitFault.TheVariants as commit
 use Rattle.node_core.specs.declared.ticket.Ticket.{Ticket}
 use Rattle.node_core.specs.declared.ticket.Receipt.{Receipt}
 use Rattle.node_core.specs.Node.{Node}
+use Rattle.node_core.specs.Answers.{used_up}
 use Rattle.node_core.specs.Steps.{judge_view, ended}
-use Rattle.node_core.specs.Calls.{Begins, Commits, CommitCause}
+use Rattle.node_core.specs.Calls.{Begins, Commits, CommitCause, is_client_write}
+pub use Rattle.node_core.specs.Calls.{Reach, IsCall}
 
 -- ---- which requests are built
 
@@ -40,20 +39,17 @@ end_name = codes "2.999.389.2"
 abbrev pub is_session : List ℕ → Bool
 is_session oid = bytes_eq oid start_name || bytes_eq oid end_name
 
-abbrev pub has_update : List Control → Bool
-has_update controls = list_any is_update_control controls
+-- the operations besides writes that have an answer of their own
+abbrev pub is_answered : Op → Bool
+is_answered (op.Bind b) = true
+is_answered op.Unbind = true
+is_answered (op.Abandon id) = true
+is_answered (op.Extended oid value) = not (is_session oid)
+is_answered _ = false
 
--- Binds, unbinds, abandons, extended operations of other names, and adds without the control of an update are built.
+-- Built are these, and the writes of clients.
 abbrev pub is_built : Request → Bool
-is_built r = by_op r.controls r.op
-  where
-    by_op : List Control → Op → Bool
-    by_op controls (op.Bind b) = true
-    by_op controls op.Unbind = true
-    by_op controls (op.Abandon id) = true
-    by_op controls (op.Extended oid value) = not (is_session oid)
-    by_op controls (op.Add object attrs) = not (has_update controls)
-    by_op controls _ = false
+is_built r = is_answered r.op || is_client_write r
 
 -- ---- replies
 
@@ -82,15 +78,12 @@ notice_name = codes "1.3.6.1.4.1.1466.20036"
 unfoldable pub notice : List ℕ
 notice = reply_bytes (record { id = 0; op = reply.Extended (result_of 2) (Some notice_name) None })
 
--- `busy` where too many CSNs are pending, and `unwillingToPerform` where there is none to draw
-abbrev pub used_up : LdapResult
-used_up = record { code = record { number = 53 }; matched = []; text = codes "csn space used up" }
-
 -- the code told this result, or memory was wanting for its text
 abbrev pub IsTold : LdapResult → Result LdapResult NoMemory → Type 0
 IsTold told (Ok r) = r ≡ told
 IsTold told (Err short) = told ≡ used_up
 
+-- `busy` where too many CSNs are pending, and `unwillingToPerform` where there is none to draw
 abbrev pub begin_result : BeginFault → LdapResult
 begin_result begin.NoMemory = result_of 80
 begin_result begin.Full = result_of 51
@@ -105,22 +98,6 @@ commit_result (commit.Exhausted last) = Some used_up
 commit_result commit.KeeperFault = Some (result_of 52)
 
 -- ---- the calls of a node
-
--- how a node is reached by the values of a type: the node as a call left it, the node that a call met, which node may
--- come from which by steps of others, what a call leaves alone, and how many calls of the keeper failed
-pub record Reach (N : Type 0) : Type 1 where
-  pub node : N → Node
-  pub met : N → N → Node
-  pub follows : N → Node → Node → Type 0
-  pub keeps : N → N → Type 0
-  pub faults : N → ℕ
-
--- a call leads from the one value to the other
-pub record IsCall {N : Type 0} (c : Reach N) (old new : N) : Type 0 where
-  pub meets : c.follows old (c.node old) (c.met old new)
-  pub beside : c.keeps old new
-  pub life : (c.met old new).life ≡ (c.node old).life
-  pub count : c.faults old ≤ c.faults new
 
 -- one begins a ticket
 pub record IsBegun {N : Type 0} (c : Reach N) (now : ℕ) (old new : N) (answer : Result Ticket BeginFault) : Type 0 where
@@ -162,14 +139,16 @@ plain_code (op.Abandon id) = 0
 plain_code (op.Extended oid value) = if is_session oid then 53 else 2
 plain_code _ = 53
 
--- What a request does at this time, on a connection that speaks for `bound`, leaving it to speak for `after`: a bind by
--- its rules, an add as a write, and nothing else touches the node.
+-- a request that is no bind: a write of a client is written, and nothing else touches the node
+abbrev pub ServesOther : {N : Type 0} → Reach N → ℕ → Identity → Request → N → N → LdapResult → Type 0
+ServesOther c now bound request old new result =
+    ((is_client_write request ≡ true) × IsWritten c now bound request old new result)
+    ⊎ ((is_client_write request ≡ false) × (new ≡ old) × (result ≡ result_of (plain_code request.op)))
+
+-- What a request does at this time, on a connection that speaks for `bound`, leaving it to speak for `after`.
 abbrev pub Serves : {N : Type 0} → Reach N → ℕ → Identity → Request → N → N → Identity → LdapResult → Op → Type 0
 Serves c now bound request old new after result (op.Bind b) = (new ≡ old) × Binds b after result
-Serves c now bound request old new after result (op.Add object attrs) =
-    (after ≡ bound) × (((has_update request.controls ≡ false) × IsWritten c now bound request old new result)
-    ⊎ ((has_update request.controls ≡ true) × (new ≡ old) × (result ≡ result_of 53)))
-Serves c now bound request old new after result other = (new ≡ old) × (after ≡ bound) × (result ≡ result_of (plain_code other))
+Serves c now bound request old new after result other = (after ≡ bound) × ServesOther c now bound request old new result
 
 -- one more request that was answered `other`, which comes for want of memory alone; the count stands still at its end
 abbrev pub count_starved : LdapResult → ℕ → ℕ

@@ -3,15 +3,19 @@ use Rattle.std.specs.Prelude.{◌≡◌, ℕ, Bool, true, false, List, [], ◌�
 use Rattle.ldap_types.specs.declared.request.Request.{Request}
 use Rattle.ldap_types.specs.declared.request.Op.{Op}
 use Rattle.ldap_types.specs.declared.request.Op.TheVariants as op
-use Rattle.ldap_requests.specs.declared.fault.NotLdapWhy.{NotLdapWhy}
-use Rattle.ldap_requests.specs.Window.{Stop, More, Fault}
+use Rattle.ber_core.specs.declared.fault.NotLdapWhy.{NotLdapWhy}
+use Rattle.ber_core.specs.Window.{Stop, More, Fault}
 use Rattle.ldap_requests.specs.Grammar.{request_at}
 use Rattle.io_edge.specs.declared.machine.Fed.{Fed}
 use Rattle.io_edge.specs.declared.machine.Fed.TheVariants.{Running, Unbound, BadBytes, Closed}
 
--- the request at the front of the bytes, of at most 2,097,152 bytes, with its size; or why none is read there
+-- how many bytes a message may have
+abbrev pub message_limit : ℕ
+message_limit = 2097152
+
+-- the request at the front of the bytes, within that limit, with its size; or why none is read there
 unfoldable pub first_request : List ℕ → Result (Request × ℕ) Stop
-first_request bytes = request_at 2097152 bytes
+first_request bytes = request_at message_limit bytes
 
 abbrev pub is_unbind : Op → Bool
 is_unbind op.Unbind = true

@@ -1,7 +1,7 @@
 -- The stream of bytes, computed, and its laws.
 use Rattle.std.specs.Prelude.{◌≡◌, ◌≢◌, ℕ, zero, suc, if◌then◌else◌, List, [], ◌∷◌, ◌++◌, length, drop, Result, Ok, Err}
 use Rattle.ldap_types.specs.declared.request.Request.{Request}
-use Rattle.ldap_requests.specs.Window.{Stop, More, Fault}
+use Rattle.ber_core.specs.Window.{Stop, More, Fault}
 use Rattle.io_edge.specs.declared.machine.Fed.{Fed}
 use Rattle.io_edge.specs.declared.machine.Fed.TheVariants.{Running, Unbound, BadBytes}
 use Rattle.conn_core.specs.Stream.{first_request, is_unbind, IsStream}

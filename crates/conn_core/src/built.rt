@@ -5,22 +5,29 @@ ghost use Rattle.std.specs.List.{list_all};
 ghost use Rattle.ldap_types.specs.declared.request.Request.{Request};
 ghost use Rattle.io_edge.specs.declared.machine.Fed.{Fed};
 ghost use Rattle.conn_core.specs.Stream.{IsStream};
-ghost use Rattle.conn_core.specs.Serving.{is_built};
+ghost use Rattle.conn_core.specs.Serving.{is_answered, is_built};
 
 use crate::first::{First, read_first};
-use crate::reply::{has_update, is_session};
+use crate::reply::is_session;
 use ldap_types::{NoMemory, Op, Request};
+use node_core::is_client_write;
 use std::alloc::Global;
+
+/// The operation has an answer of its own, and is no write.
+fn is_answered(op: &Op) -> bool
+    ensures { result ≡ is_answered op.now }
+{
+    match op {
+        Op::Bind(_) | Op::Unbind | Op::Abandon { .. } => true,
+        Op::Extended { oid, .. } => !is_session(oid.as_slice()),
+        _ => false,
+    }
+}
 
 fn is_built(request: &Request) -> bool
     ensures { result ≡ is_built request.now }
 {
-    match &request.op {
-        Op::Bind(_) | Op::Unbind | Op::Abandon { .. } => true,
-        Op::Extended { oid, .. } => !is_session(oid.as_slice()),
-        Op::Add { .. } => !has_update(request.controls.as_slice()),
-        _ => false,
-    }
+    is_answered(&request.op) || is_client_write(request)
 }
 
 /// Each whole request of the stream is built.

@@ -7,14 +7,14 @@ ghost use Rattle.ldap_replies.specs.Form.{reply_bytes};
 ghost use Rattle.io_edge.specs.declared.machine.Fed.{Fed};
 ghost use Rattle.node_core.specs.Calls.{AreSame};
 ghost use Rattle.conn_core.specs.Stream.{EndsSo, IsStream};
-ghost use Rattle.conn_core.specs.Serving.{Reach, is_built, Serves, Binds, Session, IsServed, IsTold};
+ghost use Rattle.conn_core.specs.Serving.{is_built, Serves, Binds, Session, IsServed, IsTold};
 ghost use Rattle.conn_core.specs.Feeding.{new_conn, session, Carries, Feeds, FeedsPart, CarriesPart, StillWait, Leaves, held_of, is_end, notice_of};
 
 use crate::built::are_built;
 use crate::first::{First, read_first, waits};
 use crate::queue::ReplyQueue;
-use crate::reply::{bytes_of, count_starved, notice, plain_code, reply_to, result_of};
-use crate::write::add;
+use crate::reply::{bytes_of, count_starved, notice, reply_to, result_of};
+use crate::write::serve_other;
 use io_edge::Fed;
 use ldap_rules::judge_bind;
 use ldap_types::{BindRequest, Bytes, Code, Identity, LdapResult, NoMemory, Op, Reply, Request};
@@ -134,16 +134,15 @@ impl Conn {
         now: u32,
         request: &Request,
     ) -> Result<LdapResult, NoMemory>
-        ensures served { (told : LdapResult) × Serves (record { node = N.node; met = N.met; follows = N.follows; keeps = N.keeps; faults = N.faults }) now self.old.bound request.now node.old node.new self.new.bound told request.now.op × IsTold told result }
+        ensures served { (told : LdapResult) × Serves N.reach now self.old.bound request.now node.old node.new self.new.bound told request.now.op × IsTold told result }
         ensures others { self.new ≡ record self.old { bound = self.new.bound } }
         ensures open { AreSame (N.is_open node.old) (N.is_open node.new) }
         ensures committed { AreSame (N.is_committed node.old) (N.is_committed node.new) }
-        ensures life { (N.node node.new).life ≡ (N.node node.old).life }
+        ensures life { (N.reach.node node.new).life ≡ (N.reach.node node.old).life }
     {
         match &request.op {
             Op::Bind(bind) => Ok(self.bind(alloc, bind)),
-            Op::Add { .. } => add(alloc, node, now, self.bound, request),
-            op => Ok(result_of(alloc, plain_code(op))),
+            _ => serve_other(alloc, node, now, self.bound, request),
         }
     }
 
@@ -164,13 +163,13 @@ impl Conn {
         now: u32,
         request: &Request,
     ) -> Result<(), NoMemory>
-        ensures served { (last : Session N) × IsServed (record { node = N.node; met = N.met; follows = N.follows; keeps = N.keeps; faults = N.faults }) now request.now (session self.old node.old) last × Leaves result last (session self.new node.new) }
+        ensures served { (last : Session N) × IsServed N.reach now request.now (session self.old node.old) last × Leaves result last (session self.new node.new) }
         ensures waiting { StillWait self.old.replies self.new.replies }
         ensures held { self.new.held ≡ self.old.held }
         ensures closed { self.new.is_closed ≡ self.old.is_closed }
         ensures open { AreSame (N.is_open node.old) (N.is_open node.new) }
         ensures committed { AreSame (N.is_committed node.old) (N.is_committed node.new) }
-        ensures life { (N.node node.new).life ≡ (N.node node.old).life }
+        ensures life { (N.reach.node node.new).life ≡ (N.reach.node node.old).life }
     {
         let Ok(told) = self.answer(alloc, node, now, request) else {
             return Err(NoMemory);
@@ -194,15 +193,15 @@ impl Conn {
         now: u32,
         stream: &[u8],
     ) -> Result<(Fed, usize), NoMemory>
-        ensures served { IfOk result (λ p. Carries (record { node = N.node; met = N.met; follows = N.follows; keeps = N.keeps; faults = N.faults }) now stream.now (session self.old node.old) (drop p.1 stream.now) (session self.new node.new) × EndsSo (drop p.1 stream.now) p.0) }
+        ensures served { IfOk result (λ p. Carries N.reach now stream.now (session self.old node.old) (drop p.1 stream.now) (session self.new node.new) × EndsSo (drop p.1 stream.now) p.0) }
         ensures within { IfOk result (λ p. p.1 ≤ length stream.now) }
-        ensures cut { OnErr result (CarriesPart (record { node = N.node; met = N.met; follows = N.follows; keeps = N.keeps; faults = N.faults }) now stream.now (session self.old node.old) (session self.new node.new)) }
+        ensures cut { OnErr result (CarriesPart N.reach now stream.now (session self.old node.old) (session self.new node.new)) }
         ensures waiting { StillWait self.old.replies self.new.replies }
         ensures held { self.new.held ≡ self.old.held }
         ensures closed { self.new.is_closed ≡ self.old.is_closed }
         ensures open { AreSame (N.is_open node.old) (N.is_open node.new) }
         ensures committed { AreSame (N.is_committed node.old) (N.is_committed node.new) }
-        ensures life { (N.node node.new).life ≡ (N.node node.old).life }
+        ensures life { (N.reach.node node.new).life ≡ (N.reach.node node.old).life }
     {
         let mut at = 0;
         while at < stream.len() {
@@ -263,13 +262,13 @@ impl Conn {
         piece: &[u8],
     ) -> Result<Fed, NoMemory>
         requires { self.old.is_closed ≡ false }
-        ensures fed { IfOk result (λ fed. Feeds (record { node = N.node; met = N.met; follows = N.follows; keeps = N.keeps; faults = N.faults }) now piece.now self.old node.old fed self.new node.new) }
-        ensures part { OnErr result (CarriesPart (record { node = N.node; met = N.met; follows = N.follows; keeps = N.keeps; faults = N.faults }) now (self.old.held ++ piece.now) (session self.old node.old) (session self.new node.new)) }
+        ensures fed { IfOk result (λ fed. Feeds N.reach now piece.now self.old node.old fed self.new node.new) }
+        ensures part { OnErr result (CarriesPart N.reach now (self.old.held ++ piece.now) (session self.old node.old) (session self.new node.new)) }
         ensures waiting { OnErr result (StillWait self.old.replies self.new.replies) }
         ensures empty { OnErr result (self.new.held ≡ []) }
         ensures open { AreSame (N.is_open node.old) (N.is_open node.new) }
         ensures committed { AreSame (N.is_committed node.old) (N.is_committed node.new) }
-        ensures life { (N.node node.new).life ≡ (N.node node.old).life }
+        ensures life { (N.reach.node node.new).life ≡ (N.reach.node node.old).life }
     {
         let mut stream = mem::replace(&mut self.held, Unfinished::new(alloc));
         if let Err(NoMemory) = stream.extend_from_slice(piece) {
@@ -303,12 +302,12 @@ impl Conn {
     ) -> Result<Fed, NoMemory>
         ensures closed { (result ≡ Ok Fed.Closed) ↔ (self.old.is_closed ≡ true) }
         ensures unchanged { self.old.is_closed ≡ true → (self.new ≡ self.old) × (node.new ≡ node.old) }
-        ensures fed { self.old.is_closed ≡ false → IfOk result (λ fed. Feeds (record { node = N.node; met = N.met; follows = N.follows; keeps = N.keeps; faults = N.faults }) now bytes.now self.old node.old fed self.new node.new) }
-        ensures part { OnErr result (FeedsPart (record { node = N.node; met = N.met; follows = N.follows; keeps = N.keeps; faults = N.faults }) now bytes.now self.old node.old self.new node.new) }
+        ensures fed { self.old.is_closed ≡ false → IfOk result (λ fed. Feeds N.reach now bytes.now self.old node.old fed self.new node.new) }
+        ensures part { OnErr result (FeedsPart N.reach now bytes.now self.old node.old self.new node.new) }
         ensures open { AreSame (N.is_open node.old) (N.is_open node.new) }
         ensures committed { AreSame (N.is_committed node.old) (N.is_committed node.new) }
-        ensures life { (N.node node.new).life ≡ (N.node node.old).life }
-        ensures faults { N.faults node.old ≤ N.faults node.new }
+        ensures life { (N.reach.node node.new).life ≡ (N.reach.node node.old).life }
+        ensures faults { N.reach.faults node.old ≤ N.reach.faults node.new }
     {
         if self.is_closed {
             return Ok(Fed::Closed);

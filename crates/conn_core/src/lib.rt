@@ -14,7 +14,7 @@ mod write;
 
 pub use conn::Conn;
 pub use io_edge::Fed;
-pub use laws::stream_laws;
+pub use laws::{feed_laws, stream_laws};
 pub use ldap_types::{Bytes, Identity, NoMemory};
 pub use machine::NodeMachine;
 pub use queue::ReplyQueue;

@@ -65,7 +65,7 @@ impl<N: NodeCalls, C: Clock> Machine for NodeMachine<N, C> {
 
     ghost is_ended = { λ s. s.conn.is_closed };
 
-    ghost adds = { Adds (record { node = N.node; met = N.met; follows = N.follows; keeps = N.keeps; faults = N.faults }) N.is_open N.is_committed C.tells };
+    ghost adds = { Adds N.reach N.is_open N.is_committed C.tells };
 
     fn feed(&mut self, alloc: Global, bytes: &[u8]) -> Result<Fed, NoMemory> {
         let now = self.clock.now();

@@ -4,22 +4,19 @@ ghost use Rattle.std.specs.Prelude.{◌≡◌, ◌≢◌, ◌∷◌, ◌++◌, [
 ghost use Rattle.ldap_rules.specs.Case.{result_of};
 ghost use Rattle.ldap_replies.specs.Form.{reply_bytes};
 ghost use Rattle.repl_data.specs.Order.{bytes_eq};
-ghost use Rattle.ldap_rules.specs.Verdict.{is_update_control};
+ghost use Rattle.node_core.specs.Answers.{used_up};
 ghost use Rattle.conn_core.specs.Stream.{is_unbind};
-ghost use Rattle.conn_core.specs.Serving.{reply_to, is_session, has_update, notice, used_up, begin_result, commit_result, plain_code, count_starved, IsTold};
+ghost use Rattle.conn_core.specs.Serving.{reply_to, is_session, notice, begin_result, commit_result, plain_code, count_starved, IsTold};
 
 use ldap_replies::write_reply;
-use ldap_types::{Bytes, Code, Control, LdapResult, NoMemory, Op, Reply, ReplyOp};
-use node_core::{BeginFault, CommitFault};
+use ldap_types::{Bytes, Code, LdapResult, NoMemory, Op, Reply, ReplyOp};
+use node_core::{BeginFault, CommitFault, used_up};
 use std::alloc::Global;
 
 /// The names of the extended operations that open and close a session between servers.
 const START_NAME: &[u8] = b"2.999.389.1";
 
 const END_NAME: &[u8] = b"2.999.389.2";
-
-/// The name of the control of an update between servers.
-const UPDATE_CONTROL: &[u8] = b"2.999.389.3";
 
 /// The name of the notice of disconnection (RFC 4511, section 4.4.1).
 const NOTICE_NAME: &[u8] = b"1.3.6.1.4.1.1466.20036";
@@ -47,18 +44,6 @@ pub(crate) fn is_session(oid: &[u8]) -> bool
     same_bytes(oid, START_NAME) || same_bytes(oid, END_NAME)
 }
 
-fn is_update(control: &Control) -> bool
-    ensures { result ≡ is_update_control control.now }
-{
-    same_bytes(control.oid.as_slice(), UPDATE_CONTROL)
-}
-
-pub(crate) fn has_update(controls: &[Control]) -> bool
-    ensures { result ≡ has_update controls.now }
-{
-    controls.iter().any(is_update)
-}
-
 pub(crate) fn is_unbind(op: &Op) -> bool
     ensures { result ≡ is_unbind op.now }
 {
@@ -82,15 +67,14 @@ pub(crate) fn plain_code(op: &Op) -> Code
     }
 }
 
-fn used_up(alloc: Global) -> Result<LdapResult, NoMemory>
+/// The result that says that no CSN is left, or want of memory for its text.
+fn told_used_up(alloc: Global) -> Result<LdapResult, NoMemory>
     ensures { IsTold used_up result }
 {
-    let text = Bytes::from_slice(alloc, b"csn space used up".as_slice())?;
-    Ok(LdapResult {
-        code: Code::UNWILLING_TO_PERFORM,
-        matched: Bytes::new(alloc),
-        text,
-    })
+    match used_up(alloc) {
+        Ok(told) => Ok(told),
+        Err(_short) => Err(NoMemory),
+    }
 }
 
 /// What is answered where no ticket is given.
@@ -100,7 +84,7 @@ pub(crate) fn begin_result(alloc: Global, fault: BeginFault) -> Result<LdapResul
     match fault {
         BeginFault::NoMemory => Ok(result_of(alloc, Code::OTHER)),
         BeginFault::Full => Ok(result_of(alloc, Code::BUSY)),
-        BeginFault::Exhausted { .. } => used_up(alloc),
+        BeginFault::Exhausted { .. } => told_used_up(alloc),
     }
 }
 
@@ -112,7 +96,7 @@ pub(crate) fn commit_result(alloc: Global, fault: CommitFault) -> Result<LdapRes
         CommitFault::NoMemory => Ok(result_of(alloc, Code::OTHER)),
         CommitFault::Stale { .. } => Ok(result_of(alloc, Code::OTHER)),
         CommitFault::Refused(result) => Ok(result),
-        CommitFault::Exhausted { .. } => used_up(alloc),
+        CommitFault::Exhausted { .. } => told_used_up(alloc),
         CommitFault::KeeperFault => Ok(result_of(alloc, Code::UNAVAILABLE)),
     }
 }

@@ -4,7 +4,7 @@ use Rattle.std.proofs.lemmas.List.{set-set}
 use Rattle.vector_core.proofs.Lists.{if_true, if_false}
 use Rattle.world_core.specs.World.{is_node}
 use Rattle.conn_core.specs.Whole.{stream_of}
-use Rattle.dir_top.specs.declared.line.Line.TheVariants.{Input}
+use Rattle.script_text.specs.declared.line.Line.TheVariants.{Input}
 use Rattle.dir_top.specs.declared.why.LineWhy.TheVariants as why
 use Rattle.dir_top.specs.declared.state.Connection.{Connection}
 use Rattle.dir_top.specs.declared.state.Connection.TheVariants.{Closed, Open}

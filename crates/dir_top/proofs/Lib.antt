@@ -1,7 +1,6 @@
 pub mod Converging
 pub mod Inputs
 pub mod Leading
-pub mod Numbers
 pub mod Reached
 pub mod Reaching
 pub mod Runs

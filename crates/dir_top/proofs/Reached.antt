@@ -1,38 +1,37 @@
 -- Each line that is carried out leads from world to world.
-use Rattle.std.proofs.Common.{◌≡◌, ℕ, ◌+◌, ◌≤◌, Bool, true, false, not, ◌&&◌, ◌||◌, List, [], ◌∷◌, Option, Some, None, option_map, refl, sym, subst, ◌∙◌, arith, inl, inr, nat_lt, leb-true, length}
+use Rattle.std.proofs.Common.{◌≡◌, ℕ, ◌+◌, ◌≤◌, Bool, true, false, not, ◌&&◌, ◌||◌, List, [], ◌∷◌, Option, Some, None, option_map, if◌then◌else◌, refl, sym, subst, ◌∙◌, arith, inl, inr, nat_lt, leb-true, length}
 use Rattle.std.specs.Prelude.{IfSome, IsSome, is_some, is_none}
 use Rattle.vector_core.proofs.Lists.{if_true, if_false}
-use Rattle.std.specs.List.{list_any}
 use Rattle.std.proofs.lemmas.Bool.{cases_Bool, and_parts, true≢false}
 use Rattle.ldap_types.specs.declared.request.Request.{Request}
 use Rattle.ldap_types.specs.declared.request.Op.{Op}
 use Rattle.ldap_types.specs.declared.request.Op.TheVariants as op
-use Rattle.ldap_types.specs.declared.reply.Identity.{Identity}
-use Rattle.ldap_rules.specs.Verdict.{is_built as is_built_op, is_update_control, is_supplier}
 use Rattle.node_core.specs.Steps.{judge_view}
 use Rattle.world_core.specs.declared.parts.Session.{Session}
 use Rattle.world_core.specs.World.{World, Ticket, new_world, is_node, ticket_in, session_in}
 use Rattle.world_core.specs.declared.event.Event.TheVariants as event
-use Rattle.node_core.specs.Calls.{IsWrite}
 use Rattle.world_core.specs.Laws.{IsNode, IsLawful, Leads}
+use Rattle.world_core.specs.Write.{write_in}
 use Rattle.world_core.proofs.Events.{is_node-means}
 use Rattle.world_core.proofs.Runs.{lawful_all, new_lawful}
 use Rattle.world_core.proofs.Writing.{write-leads}
-use Rattle.dir_top.specs.declared.line.Line.{Line}
-use Rattle.dir_top.specs.declared.line.Line.TheVariants as line
+use Rattle.script_text.specs.declared.line.Line.{Line}
+use Rattle.script_text.specs.declared.line.Line.TheVariants as line
 use Rattle.dir_top.specs.declared.why.LineWhy.{LineWhy}
 use Rattle.dir_top.specs.declared.why.LineWhy.TheVariants as why
 use Rattle.dir_top.specs.Output.{LineStep, GoesOn, Refuses, NotBuilt, TooMany, AllStates, before_feed, content_of}
-use Rattle.dir_top.specs.Line.{line_of}
+use Rattle.script_text.specs.Line.{line_of}
 use Rattle.dir_top.specs.declared.state.Connection.{Connection}
 use Rattle.dir_top.specs.declared.state.Connection.TheVariants.{Closed, Open}
 use Rattle.dir_top.specs.declared.state.State.{State}
 use Rattle.dir_top.specs.State.{script_suffix, new_state, connection_in}
 use Rattle.conn_core.specs.Whole.{stream_of}
-use Rattle.conn_core.specs.Serving.{has_update}
-use Rattle.dir_top.specs.Message.{request_of, is_write, is_built_write}
+use Rattle.conn_core.specs.Serving.{plain_code}
+use Rattle.node_core.specs.Calls.{is_client_write}
+use Rattle.node_core.proofs.Verdicts.{client_write}
+use Rattle.dir_top.specs.Message.{request_of, is_write}
 use Rattle.dir_top.specs.Client.{with_bytes}
-use Rattle.dir_top.specs.Serving.{Served, after_plain, serve_op, serve, serve_all, fed}
+use Rattle.dir_top.specs.Serving.{Served, after_plain, after_write, serve_op, serve, serve_all, fed}
 use Rattle.dir_top.proofs.WritesAt.{write-node}
 use Rattle.dir_top.specs.Script.{is_built, is_write_to_come, is_one_write, TheNode, TheConnection, TheTicket, NewTicket, why_if, why_first, why_name, why_state, why_last, first_why, why_of, start_by, start_of, carried, goes_on, unless_refused, line_step, step_of, script_line, line_limit, length_limit}
 use Rattle.dir_top.proofs.Leading.{leads-refl, leads-then, leads-event}
@@ -94,15 +93,6 @@ has_session (Some s) e = refl
 
 -- ---- writes
 
-built_write : (request : Request) (bound : Identity) → is_built_write request ≡ true → IsWrite request bound
-built_write request bound e =
-    let parts = and_parts (is_built_op request.op) (not (list_any is_update_control request.controls)) e in
-    record { built = parts.0; no_update = no_update (is_supplier bound) (list_any is_update_control request.controls) (not-true' _ parts.1) }
-  where
-    no_update : (a b : Bool) → b ≡ false → (a && b) ≡ false
-    no_update true b e = e
-    no_update false b e = refl
-
 both_writes : (a b : Bool) → a ≡ true → not (a && not b) ≡ true → b ≡ true
 both_writes true true e f = refl
 both_writes true false e f = absurd (true≢false (sym f))
@@ -121,26 +111,30 @@ stays n old new e i = record {
 }
 
 module _ (n : ℕ) (s : Served) (r : Request) (lawful : IsLawful s.world) (i : IsNode s.world.nodes n) where
-  serve-goes : (o : Op) → Goes n s (serve_op n s r o)
-  serve-goes (op.Bind bind) = stays n s _ refl i
-  serve-goes (op.Add object attrs) =
-      elim (cases_Bool (has_update r.controls)) [
-        | inl t ↦ subst (λ x. Goes n s x) (sym (if_true _ _ t)) (stays n s (after_plain s r 53) refl i)
-        | inr f ↦
-            subst (λ x. Goes n s x) (sym (if_false _ _ f))
+  -- a request that is no bind
+  other : Goes n s (if is_client_write r then after_write s r (write_in judge_view s.world n r s.bound) else after_plain s r (plain_code r.op))
+  other =
+      elim (cases_Bool (is_client_write r)) [
+        | inl t ↦
+            subst (λ x. Goes n s x) (sym (if_true _ _ t))
             (record {
               leads = write-leads judge_view s.world n r s.bound lawful i;
               there = write-node s.world n r s.bound i;
             })
+        | inr f ↦ subst (λ x. Goes n s x) (sym (if_false _ _ f)) (stays n s (after_plain s r (plain_code r.op)) refl i)
       ]
-  serve-goes op.Unbind = stays n s _ refl i
-  serve-goes (op.Search search) = stays n s _ refl i
-  serve-goes (op.Modify object mods) = stays n s _ refl i
-  serve-goes (op.Delete object) = stays n s _ refl i
-  serve-goes (op.Rename object new_rdn delete_old new_superior) = stays n s _ refl i
-  serve-goes (op.Compare object name value) = stays n s _ refl i
-  serve-goes (op.Abandon id) = stays n s _ refl i
-  serve-goes (op.Extended oid value) = stays n s _ refl i
+
+  serve-goes : (o : Op) → Goes n s (serve_op n s r o)
+  serve-goes (op.Bind bind) = stays n s _ refl i
+  serve-goes op.Unbind = other
+  serve-goes (op.Search search) = other
+  serve-goes (op.Modify object mods) = other
+  serve-goes (op.Add object attrs) = other
+  serve-goes (op.Delete object) = other
+  serve-goes (op.Rename object new_rdn delete_old new_superior) = other
+  serve-goes (op.Compare object name value) = other
+  serve-goes (op.Abandon id) = other
+  serve-goes (op.Extended oid value) = other
 
 lawful-then : (a b : World) → Leads judge_view a b → IsLawful a → IsLawful b
 lawful-then a b l k = subst (λ w. IsLawful w) l.ends (lawful_all judge_view a l.deeds l.run k)
@@ -173,13 +167,13 @@ module _ (s : State) (lawful : IsLawful s.world) where
         | inr f ↦ subst (λ (r : State × List ℕ). Carries s r.0) (sym (if_false _ _ f)) same
       ]
 
-  begins : (k c : ℕ) (request : Request) (connection : Connection) → ticket_in s.world k ≡ None → is_built_write request ≡ true → Carries s (start_by s k c request connection).0
+  begins : (k c : ℕ) (request : Request) (connection : Connection) → ticket_in s.world k ≡ None → is_client_write request ≡ true → Carries s (start_by s k c request connection).0
   begins k c request Closed free built = same
-  begins k c request (Open node instance client) free built = leads-event judge_view s.world (event.Start k node request client.bound) (free, built_write request client.bound built)
+  begins k c request (Open node instance client) free built = leads-event judge_view s.world (event.Start k node request client.bound) (free, client_write request client.bound built)
 
   starts : (k c : ℕ) (o : Option Request) → ticket_in s.world k ≡ None → is_one_write o ≡ true → not (is_write_to_come o) ≡ true → Carries s (start_of s k c o).0
   starts k c None free one built = same
-  starts k c (Some request) free one built = begins k c request (connection_in s c) free (both_writes (is_write request) (is_built_write request) one built)
+  starts k c (Some request) free one built = begins k c request (connection_in s c) free (both_writes (is_write request) (is_client_write request) one built)
 
   pub carries : (l : Line) → is_built (Some s) l ≡ true → why_of (Some s) l ≡ None → Carries s (carried s l).0
   carries line.Nothing b w = same

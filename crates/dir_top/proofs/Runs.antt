@@ -16,7 +16,7 @@ use Rattle.dir_top.specs.Output.{LineStep, GoesOn, Refuses, NotBuilt, TooMany, T
 use Rattle.std.specs.Str.Lines.{strip_carriage_return}
 use Rattle.dir_top.specs.declared.why.LineWhy.{LineWhy}
 use Rattle.dir_top.specs.declared.why.LineWhy.TheVariants.{LongLine}
-use Rattle.dir_top.specs.Line.{line_of}
+use Rattle.script_text.specs.Line.{line_of}
 use Rattle.dir_top.specs.Script.{script_line, step_of, line_limit, length_limit}
 use Rattle.dir_top.specs.Running.{Stands, Reads, content_at}
 

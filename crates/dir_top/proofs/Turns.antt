@@ -1,5 +1,5 @@
 -- What the connections of conn_core do to a node of a world is what the script says of a line.
-use Rattle.std.proofs.Common.{◌≡◌, ℕ, ◌+◌, ◌-◌, ◌^◌, min, Bool, true, false, cond, ◌==◌, List, [], ◌∷◌, ◌++◌, refl, sym, ap, subst, ◌∙◌, arith, inl, inr, append-nil}
+use Rattle.std.proofs.Common.{◌≡◌, ℕ, ◌+◌, ◌-◌, ◌^◌, min, Bool, true, false, cond, ◌==◌, if◌then◌else◌, List, [], ◌∷◌, ◌++◌, refl, sym, ap, subst, ◌∙◌, arith, inl, inr, append-nil}
 use Rattle.std.proofs.lemmas.Bool.{true≢false}
 use Rattle.std.proofs.lemmas.Bool.Decides.{nat_tests}
 use Rattle.vector_core.proofs.Lists.{if_true, if_false}
@@ -9,17 +9,20 @@ use Rattle.ldap_types.specs.declared.request.Op.TheVariants as op
 use Rattle.ldap_types.specs.declared.reply.Identity.{Identity}
 use Rattle.ldap_types.specs.declared.reply.LdapResult.{LdapResult}
 use Rattle.ldap_rules.specs.Case.{result_of}
+use Rattle.node_core.specs.Steps.{judge_view}
+use Rattle.node_core.specs.Calls.{is_client_write}
 use Rattle.world_core.specs.World.{World}
-use Rattle.world_core.specs.At.{At}
+use Rattle.world_core.specs.Write.{write_in}
+use Rattle.world_core.specs.At.{At, at_reach}
 use Rattle.io_edge.specs.declared.machine.Fed.{Fed}
 use Rattle.conn_core.specs.declared.conn.Conn.{Conn}
 use Rattle.conn_core.specs.Whole.{Stream, stream_of}
-use Rattle.conn_core.specs.Serving.{Session, Serves, AreServed, IsWritten, reply_to, sent, plain_code, count_starved}
+use Rattle.conn_core.specs.Serving.{Session, Serves, ServesOther, AreServed, IsWritten, reply_to, sent, plain_code, count_starved}
 use Rattle.conn_core.specs.Feeding.{session, Feeds, notice_of, held_of, is_end}
 use Rattle.conn_core.proofs.Cuts.{has_one_stream}
 use Rattle.dir_top.specs.Serving.{Served, after_bind, after_plain, after_write, serve_op, serve, serve_all}
 use Rattle.dir_top.specs.Turn.{turn_by, turn}
-use Rattle.dir_top.proofs.WritesAt.{at_reach, IsNotStarved, written-at, write-clock}
+use Rattle.dir_top.proofs.WritesAt.{IsNotStarved, written-at, write-clock}
 
 -- ---- where no request was answered for want of memory at the end, none was before
 
@@ -64,6 +67,24 @@ module _ (now : ℕ) (r : Request) (old new : Session At) (clock : old.node.worl
         (replied ∙ ap (λ x. old.replies ++ sent r.id (reply_to r.op x)) e),
   )
 
+  -- a request that is no bind
+  other : (new.bound ≡ old.bound) × ServesOther at_reach now old.bound r old.node new.node result
+      → (new.node.n ≡ old.node.n) × (new.node.world.clock ≡ now) × (served_of new ≡ (if is_client_write r then after_write (served_of old) r (write_in judge_view old.node.world old.node.n r old.bound) else after_plain (served_of old) r (plain_code r.op)))
+  other s =
+      elim s.1 [
+        | inl w ↦
+            (let h = written-at old.node new.node r old.bound (subst (λ t. IsWritten at_reach t old.bound r old.node new.node result) (sym clock) w.1) fed in (
+              h.0,
+              ap (λ (p : World × LdapResult). p.0.clock) (sym h.1) ∙ write-clock old.node.world old.node.n r old.bound ∙ clock,
+              together new.node.world new.node.world new.bound old.bound new.replies (old.replies ++ sent r.id (reply_to r.op result)) refl s.0 replied
+                  ∙ ap (λ p. after_write (served_of old) r p) (sym h.1)
+                  ∙ sym (if_true _ _ w.0),
+            ))
+        | inr u ↦
+            (let h = plain (plain_code r.op) u.1 s.0 u.2 in
+            (h.0, h.1, h.2 ∙ sym (if_false _ _ u.0)))
+      ]
+
   served-op : (o : Op) → Serves at_reach now old.bound r old.node new.node new.bound result o → IsLeft o
   served-op (op.Bind b) s =
       elim s.1 [
@@ -75,28 +96,15 @@ module _ (now : ℕ) (r : Request) (old new : Session At) (clock : old.node.worl
         )
         | inr short ↦ absurd (fed (ap (λ (x : LdapResult). x.code.number) short.1))
       ]
-  served-op (op.Add object attrs) s =
-      elim s.1 [
-        | inl w ↦
-            (let h = written-at old.node new.node r old.bound (subst (λ t. IsWritten at_reach t old.bound r old.node new.node result) (sym clock) w.1) fed in (
-              h.0,
-              ap (λ (p : World × LdapResult). p.0.clock) (sym h.1) ∙ write-clock old.node.world old.node.n r old.bound ∙ clock,
-              together new.node.world new.node.world new.bound old.bound new.replies (old.replies ++ sent r.id (reply_to r.op result)) refl s.0 replied
-                  ∙ ap (λ p. after_write (served_of old) r p) (sym h.1)
-                  ∙ sym (if_false _ _ w.0),
-            ))
-        | inr u ↦
-            (let h = plain 53 u.1 s.0 u.2 in
-            (h.0, h.1, h.2 ∙ sym (if_true _ _ u.0)))
-      ]
-  served-op op.Unbind s = plain (plain_code op.Unbind) s.0 s.1 s.2
-  served-op (op.Search search) s = plain (plain_code (op.Search search)) s.0 s.1 s.2
-  served-op (op.Modify object mods) s = plain (plain_code (op.Modify object mods)) s.0 s.1 s.2
-  served-op (op.Delete object) s = plain (plain_code (op.Delete object)) s.0 s.1 s.2
-  served-op (op.Rename object new_rdn delete_old new_superior) s = plain (plain_code (op.Rename object new_rdn delete_old new_superior)) s.0 s.1 s.2
-  served-op (op.Compare object name value) s = plain (plain_code (op.Compare object name value)) s.0 s.1 s.2
-  served-op (op.Abandon id) s = plain (plain_code (op.Abandon id)) s.0 s.1 s.2
-  served-op (op.Extended oid value) s = plain (plain_code (op.Extended oid value)) s.0 s.1 s.2
+  served-op op.Unbind s = other s
+  served-op (op.Search search) s = other s
+  served-op (op.Modify object mods) s = other s
+  served-op (op.Add object attrs) s = other s
+  served-op (op.Delete object) s = other s
+  served-op (op.Rename object new_rdn delete_old new_superior) s = other s
+  served-op (op.Compare object name value) s = other s
+  served-op (op.Abandon id) s = other s
+  served-op (op.Extended oid value) s = other s
 
 -- ---- all of them
 

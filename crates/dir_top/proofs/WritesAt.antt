@@ -14,11 +14,11 @@ use Rattle.node_core.specs.declared.fault.CommitFault.TheVariants as commit
 use Rattle.node_core.specs.declared.ticket.Ticket.{Ticket}
 use Rattle.node_core.specs.declared.ticket.Receipt.{Receipt}
 use Rattle.node_core.specs.Node.{Node}
-use Rattle.node_core.specs.Steps.{judge_view, verdict_at, begin_answer, after_begin}
+use Rattle.node_core.specs.Steps.{NoTicket, Full, Exhausted, judge_view, verdict_at, begin_answer, after_begin}
 use Rattle.node_core.specs.Calls.{CommitCause, CommitsUnder}
 use Rattle.world_core.specs.World.{World, node_in, with_node, put, begin_at}
 use Rattle.world_core.specs.Write.{busy, success, result_of as answer_result, written_from, write_in}
-use Rattle.world_core.specs.At.{At, reached, IsBeside}
+use Rattle.world_core.specs.At.{At, reached, at_reach}
 use Rattle.world_core.specs.Held.{answer_of}
 use Rattle.world_core.specs.Laws.{IsNode}
 use Rattle.world_core.proofs.Honest.{with-IsNode}
@@ -26,10 +26,6 @@ use Rattle.world_core.proofs.Outcomes.{same_node}
 use Rattle.world_core.proofs.Failures.{fault-says}
 use Rattle.world_core.proofs.WriteSteps.{finish-committed, finish-refused, written-done}
 use Rattle.conn_core.specs.Serving.{Reach, IsBegun, IsCommitted, IsEnded, IsWritten, not_begun, settled, aborted, begin_result, commit_result}
-
--- how the node is reached
-abbrev pub at_reach : Reach At
-at_reach = record { node = reached; met = λ old new. reached old; follows = λ a left meets. meets ≡ left; keeps = IsBeside; faults = λ a. 0 }
 
 -- no answer for want of memory
 abbrev pub IsNotStarved : LdapResult → Type 0
@@ -144,18 +140,16 @@ written-at old new request bound (aborted ticket back fault result begun committ
 pub write-clock : (w : World) (n : ℕ) (request : Request) (bound : Identity) → (write_in judge_view w n request bound).0.clock ≡ w.clock
 write-clock w n request bound = by_begin (begin_answer (node_in w n) w.clock)
   where
-    by_begin : (a : Result Csn BeginFault) → (written_from judge_view w n request bound a).0.clock ≡ w.clock
+    by_begin : (a : Result Csn NoTicket) → (written_from judge_view w n request bound a).0.clock ≡ w.clock
     by_begin (Ok csn) = refl
-    by_begin (Err (begin.Exhausted last)) = refl
-    by_begin (Err begin.Full) = refl
-    by_begin (Err begin.NoMemory) = refl
+    by_begin (Err (Exhausted last)) = refl
+    by_begin (Err Full) = refl
 
 -- and there are the nodes that were there
 pub write-node : (w : World) (n : ℕ) (request : Request) (bound : Identity) → IsNode w.nodes n → IsNode (write_in judge_view w n request bound).0.nodes n
 write-node w n request bound i = by_begin (begin_answer (node_in w n) w.clock)
   where
-    by_begin : (a : Result Csn BeginFault) → IsNode (written_from judge_view w n request bound a).0.nodes n
+    by_begin : (a : Result Csn NoTicket) → IsNode (written_from judge_view w n request bound a).0.nodes n
     by_begin (Ok csn) = with-IsNode _ n n _ (with-IsNode _ n n _ (with-IsNode w.nodes n n _ i))
-    by_begin (Err (begin.Exhausted last)) = i
-    by_begin (Err begin.Full) = i
-    by_begin (Err begin.NoMemory) = i
+    by_begin (Err (Exhausted last)) = i
+    by_begin (Err Full) = i

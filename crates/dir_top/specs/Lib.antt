@@ -1,9 +1,7 @@
 pub mod Client
 pub mod Converges
-pub mod Line
 pub mod Message
 pub mod Output
-pub mod Print
 pub mod Report
 pub mod Running
 pub mod Script
@@ -12,4 +10,3 @@ pub mod State
 pub mod Status
 pub mod Step
 pub mod Turn
-pub mod Words

@@ -4,9 +4,10 @@ use Rattle.std.specs.List.{list_any}
 use Rattle.ldap_types.specs.declared.request.Request.{Request}
 use Rattle.ldap_types.specs.declared.request.Op.{Op}
 use Rattle.ldap_types.specs.declared.request.Op.TheVariants.{Add, Modify, Delete, Rename}
-use Rattle.ldap_requests.specs.Window.{Stop}
+use Rattle.ber_core.specs.Window.{Stop}
 use Rattle.ldap_requests.specs.Grammar.{request_at}
-use Rattle.ldap_rules.specs.Verdict.{is_built, is_update_control}
+use Rattle.ldap_rules.specs.Verdict.{is_update_control}
+use Rattle.conn_core.specs.Stream.{message_limit}
 
 -- the request, where its message is all of the bytes
 abbrev pub whole_request : ℕ → Result (Request × ℕ) Stop → Option Request
@@ -15,7 +16,7 @@ whole_request size (Err stop) = None
 
 -- the request that the bytes spell
 unfoldable pub request_of : List ℕ → Option Request
-request_of bytes = whole_request (length bytes) (request_at 2097152 bytes)
+request_of bytes = whole_request (length bytes) (request_at message_limit bytes)
 
 abbrev pub is_write_op : Op → Bool
 is_write_op (Add object attrs) = true
@@ -27,7 +28,3 @@ is_write_op _ = false
 -- a write of a client, and no update of another server
 abbrev pub is_write : Request → Bool
 is_write request = is_write_op request.op && not (list_any is_update_control request.controls)
-
--- the writes that are built so far
-abbrev pub is_built_write : Request → Bool
-is_built_write request = is_built request.op && not (list_any is_update_control request.controls)

@@ -7,8 +7,8 @@ use Rattle.world_core.specs.declared.event.Event.{Event}
 use Rattle.world_core.specs.declared.event.Event.TheVariants as event
 use Rattle.world_core.specs.declared.event.Happened.{Happened}
 use Rattle.world_core.specs.declared.event.Happened.TheVariants as what
-use Rattle.dir_top.specs.declared.line.Line.{Line}
-use Rattle.dir_top.specs.declared.line.Line.TheVariants.{Nothing, Nodes, Clock, Connect, Input, StartWrite, Commit, Settle, Abort, Acquire, Release, Offer, Deliver, Pump, Restart, Fail, Vector, Dump, Audit}
+use Rattle.script_text.specs.declared.line.Line.{Line}
+use Rattle.script_text.specs.declared.line.Line.TheVariants.{Nothing, Nodes, Clock, Connect, Input, StartWrite, Commit, Settle, Abort, Acquire, Release, Offer, Deliver, Pump, Restart, Fail, Vector, Dump, Audit}
 use Rattle.dir_top.specs.declared.why.LineWhy.{LineWhy}
 use Rattle.dir_top.specs.declared.why.LineWhy.TheVariants as why
 use Rattle.dir_top.specs.declared.state.Connection.{Connection}
@@ -17,10 +17,11 @@ use Rattle.dir_top.specs.declared.state.Owed.{Owed}
 use Rattle.dir_top.specs.declared.state.State.{State}
 use Rattle.dir_top.specs.Client.{with_bytes, has_built}
 use Rattle.dir_top.specs.State.{new_state, connection_in, is_open, holds_part, opened, owed_for, without_owed}
-use Rattle.dir_top.specs.Message.{request_of, is_write, is_built_write}
+use Rattle.dir_top.specs.Message.{request_of, is_write}
+use Rattle.node_core.specs.Calls.{is_client_write}
 use Rattle.dir_top.specs.Serving.{fed}
 use Rattle.dir_top.specs.Report.{start_text, commit_text, settle_text, abort_text, acquire_text, release_text, offer_text, deliver_text, vector_text, dump_text}
-use Rattle.dir_top.specs.Line.{line_of}
+use Rattle.script_text.specs.Line.{line_of}
 use Rattle.dir_top.specs.Output.{LineStep, GoesOn, Refuses, NotBuilt, TooMany, Told, told_of, before_feed, content_of}
 
 -- ---- what is built
@@ -41,7 +42,7 @@ is_one_write (Some request) = is_write request
 
 abbrev pub is_write_to_come : Option Request → Bool
 is_write_to_come None = false
-is_write_to_come (Some request) = is_write request && not (is_built_write request)
+is_write_to_come (Some request) = is_write request && not (is_client_write request)
 
 -- the lines that are not built, whatever they name
 abbrev pub is_to_come : Line → Bool

@@ -2,17 +2,18 @@
 use Rattle.std.specs.Prelude.{ℕ, if◌then◌else◌, List, [], ◌∷◌, ◌++◌}
 use Rattle.ldap_types.specs.declared.request.Request.{Request}
 use Rattle.ldap_types.specs.declared.request.Op.{Op}
-use Rattle.ldap_types.specs.declared.request.Op.TheVariants.{Bind, Add}
+use Rattle.ldap_types.specs.declared.request.Op.TheVariants.{Bind}
 use Rattle.ldap_types.specs.declared.reply.Identity.{Identity}
 use Rattle.ldap_types.specs.declared.reply.LdapResult.{LdapResult}
 use Rattle.ldap_rules.specs.Bind.{bind_verdict}
 use Rattle.ldap_rules.specs.Case.{result_of}
 use Rattle.node_core.specs.Steps.{judge_view}
+use Rattle.node_core.specs.Calls.{is_client_write}
 use Rattle.world_core.specs.World.{World, is_node}
 use Rattle.world_core.specs.Write.{write_in}
 use Rattle.io_edge.specs.declared.machine.Fed.{Fed}
 use Rattle.io_edge.specs.declared.machine.Fed.TheVariants.{Running}
-use Rattle.conn_core.specs.Serving.{has_update, reply_to, sent, plain_code}
+use Rattle.conn_core.specs.Serving.{reply_to, sent, plain_code}
 use Rattle.conn_core.specs.Whole.{Stream, stream_of}
 use Rattle.conn_core.specs.Feeding.{notice_of, is_end}
 use Rattle.dir_top.specs.declared.state.Connection.{Connection}
@@ -50,8 +51,7 @@ after_plain s r code = replied s r (result_of code)
 
 abbrev pub serve_op : ℕ → Served → Request → Op → Served
 serve_op n s r (Bind bind) = after_bind s r (bind_verdict bind)
-serve_op n s r (Add object attrs) = if has_update r.controls then after_plain s r 53 else after_write s r (write_in judge_view s.world n r s.bound)
-serve_op n s r op = after_plain s r (plain_code op)
+serve_op n s r op = if is_client_write r then after_write s r (write_in judge_view s.world n r s.bound) else after_plain s r (plain_code r.op)
 
 -- ONE REQUEST at node n
 abbrev pub serve : ℕ → Served → Request → Served

@@ -3,8 +3,8 @@ use Rattle.std.specs.Prelude.{Option}
 use Rattle.dir_top.specs.declared.script.Step.{Step}
 use Rattle.dir_top.specs.declared.script.Step.TheVariants as step
 use Rattle.dir_top.specs.declared.state.State.{State}
-use Rattle.dir_top.specs.declared.line.Line.{Line}
-use Rattle.dir_top.specs.declared.line.Line.TheVariants.{Nothing, Nodes, Clock, Connect, Input, StartWrite}
+use Rattle.script_text.specs.declared.line.Line.{Line}
+use Rattle.script_text.specs.declared.line.Line.TheVariants.{Nothing, Nodes, Clock, Connect, Input, StartWrite}
 use Rattle.dir_top.specs.Output.{LineStep, GoesOn, Refuses, NotBuilt}
 
 abbrev pub meant : Step → Option State → LineStep (Option State)

@@ -8,19 +8,19 @@ ghost use Rattle.io_edge.specs.Edge.{AppendsFront};
 ghost use Rattle.dir_top.specs.declared.state.State.{State};
 ghost use Rattle.std.specs.Str.Lines.{strip_carriage_return};
 ghost use Rattle.dir_top.specs.Step.{meant};
-ghost use Rattle.dir_top.specs.Line.{line_of};
+ghost use Rattle.script_text.specs.Line.{line_of};
 ghost use Rattle.dir_top.specs.Output.{Outcome, Told, before_feed, content_of};
 ghost use Rattle.dir_top.specs.Script.{step_of, line_limit, length_limit, output};
 ghost use Rattle.dir_top.specs.Converges.{ConvergesThroughout};
 ghost use Rattle.dir_top.specs.Running.{Stands, Reads, IsWithin, content_at, IsFromLine, IsFromRun, wrong_word};
 
-use crate::line::{Line, read_line};
 use crate::script::{Step, take_line};
 use crate::state::State;
 use crate::status::Status;
 use crate::why::LineWhy;
 use io_edge::{Failed, Sink, Source};
 use repl_data::{Bytes, NoMemory};
+use script_text::{Line, LineFault, read_line};
 use std::alloc::Global;
 use world_core::judge_laws;
 
@@ -39,8 +39,10 @@ pub(crate) struct Script {
 fn carry_text(alloc: Global, world: &mut Option<State>, text: &[u8]) -> Result<Step, NoMemory>
     ensures { IfOk result (λ step. step_of world.old (line_of text.now) ≡ meant step world.new) }
 {
-    let Some(line) = read_line(alloc, text)? else {
-        return Ok(Step::Refuses(LineWhy::Grammar));
+    let line = match read_line(alloc, text) {
+        Ok(line) => line,
+        Err(LineFault::BadLine) => return Ok(Step::Refuses(LineWhy::Grammar)),
+        Err(LineFault::NoMemory) => return Err(NoMemory),
     };
     let step = take_line(alloc, world, &line);
     lose_line(line);

@@ -3,16 +3,13 @@
 
 mod client;
 mod exec;
-mod line;
 mod message;
-mod print;
 mod report;
 mod script;
 mod serving;
 mod state;
 mod status;
 mod why;
-mod words;
 
 pub use exec::exec_main;
 pub use status::Status;

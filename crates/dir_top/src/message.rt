@@ -2,8 +2,8 @@
 
 ghost use Rattle.std.specs.Prelude.{◌≡◌, IfOk};
 ghost use Rattle.std.specs.List.{list_any};
-ghost use Rattle.ldap_rules.specs.Verdict.{is_built, is_update_control};
-ghost use Rattle.dir_top.specs.Message.{request_of, is_write_op, is_write, is_built_write};
+ghost use Rattle.ldap_rules.specs.Verdict.{is_update_control};
+ghost use Rattle.dir_top.specs.Message.{request_of, is_write_op, is_write};
 
 use ldap_requests::{ReadFault, read_request};
 use ldap_types::{Control, Op, Request};
@@ -53,25 +53,9 @@ fn is_write_op(op: &Op) -> bool
     }
 }
 
-fn is_built_op(op: &Op) -> bool
-    ensures { result ≡ is_built op.now }
-{
-    match op {
-        Op::Add { .. } => true,
-        _ => false,
-    }
-}
-
 /// A write of a client, and no update of another server.
 pub(crate) fn is_write(request: &Request) -> bool
     ensures { result ≡ is_write request.now }
 {
     is_write_op(&request.op) && !has_update_control(request.controls.as_slice())
-}
-
-/// A write that is built so far.
-pub(crate) fn is_built_write(request: &Request) -> bool
-    ensures { result ≡ is_built_write request.now }
-{
-    is_built_op(&request.op) && !has_update_control(request.controls.as_slice())
 }

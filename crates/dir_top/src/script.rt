@@ -4,13 +4,13 @@ ghost use Rattle.std.specs.Prelude.{◌≡◌, ◌||◌, Some, None, true, false
 ghost use Rattle.world_core.specs.World.{ticket_in};
 ghost use Rattle.dir_top.specs.declared.state.State.{State};
 ghost use Rattle.dir_top.specs.State.{connection_in, holds_part};
-ghost use Rattle.dir_top.specs.Message.{request_of, is_built_write};
+ghost use Rattle.dir_top.specs.Message.{request_of};
+ghost use Rattle.node_core.specs.Calls.{is_client_write};
 ghost use Rattle.dir_top.specs.Script.{TheNode, TheConnection, NewConnection, TheTicket, NewTicket, TheUpdate, why_name, why_state, first_why, is_committed, why_if, is_one_write, is_write_to_come, is_to_come, is_started, line_step, owes, start_by, start_of};
 ghost use Rattle.dir_top.specs.Report.{start_text};
 ghost use Rattle.dir_top.specs.Step.{meant, IsEventLine};
 
-use crate::line::Line;
-use crate::message::{is_built_write, is_write, request_of};
+use crate::message::{is_write, request_of};
 use crate::report::{
     abort_text, acquire_text, commit_text, deliver_text, dump_text, offer_text, release_text,
     settle_text, start_text, vector_text,
@@ -18,7 +18,9 @@ use crate::report::{
 use crate::state::{Connection, Owed, State};
 use crate::why::LineWhy;
 use ldap_types::Request;
+use node_core::is_client_write;
 use repl_data::{Bytes, NoMemory};
+use script_text::Line;
 use std::alloc::Global;
 use world_core::{Event, Happened};
 
@@ -299,7 +301,7 @@ impl State {
     /// Begins a ticket for a write on an open connection.
     fn begin(&mut self, alloc: Global, k: u32, c: u16, request: Request) -> Result<Bytes, NoMemory>
         requires free { ticket_in self.old.world k ≡ None }
-        requires write { is_built_write request ≡ true }
+        requires write { is_client_write request ≡ true }
         ensures { IfOk result (λ text. (self.new, text) ≡ start_by self.old k c request (connection_in self.old c)) }
     {
         let Some(
@@ -467,7 +469,7 @@ fn is_write_to_come(request: &Option<Request>) -> bool
     ensures { result ≡ is_write_to_come request.now }
 {
     match request {
-        Some(request) => is_write(request) && !is_built_write(request),
+        Some(request) => is_write(request) && !is_client_write(request),
         None => false,
     }
 }

@@ -3,9 +3,9 @@
 ghost use Rattle.std.specs.Prelude.{◌≡◌, ◌++◌, IfOk};
 ghost use Rattle.dir_top.specs.Status.{number_of, line_text, text_of};
 
-use crate::print::number_word;
 use crate::why::LineWhy;
 use repl_data::{Bytes, NoMemory};
+use script_text::number_word;
 use std::alloc::Global;
 
 /// How a run of the program ended.

@@ -4,8 +4,8 @@ ghost use Rattle.std.specs.Prelude.{◌≡◌, ◌++◌, IfOk};
 ghost use Rattle.std.specs.Fmt.{decimal};
 ghost use Rattle.dir_top.specs.Status.{why_text};
 
-use crate::print::number_word;
 use repl_data::{Bytes, NoMemory};
+use script_text::number_word;
 use std::alloc::Global;
 
 /// Why a line of the script is refused. The reasons are looked for in this order.

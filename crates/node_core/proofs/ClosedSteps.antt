@@ -15,10 +15,9 @@ use Rattle.vector_core.specs.declared.answers.Applied.TheVariants.{Taken, Duplic
 use Rattle.vector_core.specs.declared.answers.ApplyFault.{ApplyFault}
 use Rattle.vector_core.specs.declared.answers.AcquireFault.{AcquireFault}
 use Rattle.vector_core.proofs.Lists.{if_true, if_false}
-use Rattle.node_core.specs.declared.fault.BeginFault.{BeginFault}
 use Rattle.node_core.specs.Node.{Node, front}
 use Rattle.ldap_rules.specs.Laws.{target_at, change_at}
-use Rattle.node_core.specs.Steps.{csn_for, after_begin, CommitAnswer, commit_answer, with_csn, after_commit, ended, after_acquire, released, is_held_by, apply_answer, after_apply}
+use Rattle.node_core.specs.Steps.{NoTicket, csn_for, after_begin, CommitAnswer, commit_answer, with_csn, after_commit, ended, after_acquire, released, is_held_by, apply_answer, after_apply}
 use Rattle.node_core.specs.Sound.{IsPlain, IsSoundNode, IsOpen, IsSoundWrite}
 use Rattle.node_core.proofs.Orders.{lt_number, number_lt, plain_same, plain_apart}
 use Rattle.node_core.proofs.Fronts.{front_other-above}
@@ -53,6 +52,23 @@ need_below n csn now target body new s closed sw plain e low =
           (λ c h. subst (λ z. number_of c.csn < number_of z) d.2 (drawn-above n d.0 s up.0 c h)))
     ]
 
+-- a write that is sound comes after what it needs
+pub write_arrives : (n : Node) (csn : Csn) (now : ℕ) (target : Option Uid) (body : Body) (new : Csn) → IsSoundNode n → IsOpen n csn → IsArrival n.taken → IsSoundWrite n.taken target body
+    → csn_for n csn (needed (target_at csn target) body) now ≡ Some new → IsArrival (n.taken ++ change_at new target body ∷ [])
+write_arrives n csn now target body new s o closed sw e =
+    let ch = chosen n csn (needed (target_at csn target) body) now new s o e in
+    let plain : IsPlain new = ch.0.sound.pending_plain new ch.1.is_pending in
+    let new_one : (d : Change) → Contains n.taken d → csn_eq d.csn new ≡ false =
+    λ d h. plain_apart d.csn new (s.taken_plain d h) plain (ch.1.not_taken d (subst (λ z. Contains z d) (sym (with_csn-taken n csn new)) h)) in
+    let own : new.rid ≡ n.rid = ch.0.sound.pending_own new ch.1.is_pending ∙ ch.0.on.same_rid in
+    let low : 0 < new.rid = (let r : 0 < n.rid = s.rid_above in omega arith) in
+    let high : new.rid < 65535 = (let r : n.rid < 65535 = s.rid_fits in omega arith) in
+    arrival_push n.taken (change_at new target body) closed new_one
+    (sw.passes new plain low high
+    (number_lt (needed (target_at new target) body).csn new (known_plain n.taken (needed (target_at new target) body) closed.sound s.taken_plain (sw.known new)) plain
+    (need_below n csn now target body new s closed sw (s.pending_plain csn o.is_pending) e low)))
+    (sw.known new)
+
 pub commit_closed : (n : Node) (life : ℕ) (csn : Csn) (verdict : Verdict) (now : ℕ) (fails : Bool) → IsSoundNode n → (life ≡ n.life → IsOpen n csn) → IsArrival n.taken → ((target : Option Uid) (body : Body) → verdict ≡ Writes target body → IsSoundWrite n.taken target body) → IsArrival (after_commit n csn verdict (commit_answer n life csn verdict now fails)).taken
 commit_closed n life csn verdict now fails s open' closed writes =
     commit_by n life csn verdict now fails (ClosedAfter n csn)
@@ -60,20 +76,8 @@ commit_closed n life csn verdict now fails s open' closed writes =
     (λ l target body new e. (
       (λ w. subst (λ z. IsArrival z) (sym (with_csn-taken n csn new)) closed),
       (λ w.
-          (let sw = w target body refl in
-          let o = open' l in
-          let ch = chosen n csn (needed (target_at csn target) body) now new s o e in
-          let plain : IsPlain new = ch.0.sound.pending_plain new ch.1.is_pending in
-          let new_one : (d : Change) → Contains n.taken d → csn_eq d.csn new ≡ false =
-          λ d h. plain_apart d.csn new (s.taken_plain d h) plain (ch.1.not_taken d (subst (λ z. Contains z d) (sym (with_csn-taken n csn new)) h)) in
-          let own : new.rid ≡ n.rid = ch.0.sound.pending_own new ch.1.is_pending ∙ ch.0.on.same_rid in
-          let low : 0 < new.rid = (let r : 0 < n.rid = s.rid_above in omega arith) in
-          let high : new.rid < 65535 = (let r : n.rid < 65535 = s.rid_fits in omega arith) in
           subst (λ z. IsArrival (z ++ change_at new target body ∷ [])) (sym (with_csn-taken n csn new))
-          (arrival_push n.taken (change_at new target body) closed new_one
-          (sw.passes new plain low high
-          (number_lt (needed (target_at new target) body).csn new (known_plain n.taken (needed (target_at new target) body) closed.sound s.taken_plain (sw.known new)) plain
-          (need_below n csn now target body new s closed sw (s.pending_plain csn o.is_pending) e low))) (sw.known new)))),
+          (write_arrives n csn now target body new s (open' l) closed (w target body refl) e)),
     ))
     writes
 
@@ -98,7 +102,7 @@ apply_closed n from u now fails s fit closed = by_answer (apply_answer n from u 
 
 -- ---- the other steps take nothing
 
-pub begin-taken : (n : Node) (a : Result Csn BeginFault) → (after_begin n a).taken ≡ n.taken
+pub begin-taken : (n : Node) (a : Result Csn NoTicket) → (after_begin n a).taken ≡ n.taken
 begin-taken n (Ok csn) = refl
 begin-taken n (Err fault) = refl
 

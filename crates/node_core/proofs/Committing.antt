@@ -3,6 +3,7 @@ use Rattle.std.proofs.Common.{◌≡◌, Bool, true, false, inl, inr, List, [], 
 use Rattle.repl_data.specs.declared.csn.Csn.{Csn}
 use Rattle.repl_data.specs.declared.change.Change.{Change}
 use Rattle.repl_data.specs.Order.{csn_eq, number_of}
+use Rattle.repl_data.specs.Closed.{IsArrival}
 use Rattle.repl_data.proofs.CsnTests.{csn_eq-same}
 use Rattle.vector_core.specs.Vector.{IsRaised}
 use Rattle.pending_core.specs.declared.generator.Generator.{Generator}
@@ -49,11 +50,12 @@ chosen-fresh n old new s o ch h =
     let d = csns-from n.taken new h in
     open'.not_taken d.0 (subst (λ xs. Contains xs d.0) (sym (same_taken n (csn_eq old new) (without n.pending old ++ new ∷ []) (moment_of new))) d.1) (ap number_of d.2)
 
-pub kept-own : (n : Node) (heads new : List Csn) (old : Csn) (c : Change) → IsKept n heads → IsOpen n old → IsChosen n old c.csn → IsRaised heads new c.csn
+pub kept-own : (n : Node) (heads new : List Csn) (old : Csn) (c : Change) → IsKept n heads → IsOpen n old → IsChosen n old c.csn → IsArrival (n.taken ++ c ∷ []) → IsRaised heads new c.csn
     → IsKept (with_parts n (n.taken ++ c ∷ []) (if csn_eq old c.csn then n.pending else without n.pending old ++ c.csn ∷ []) (if csn_eq old c.csn then n.last else moment_of c.csn)) new
-kept-own n heads new old c k o ch raised =
+kept-own n heads new old c k o ch arrives raised =
     let both = chosen n old ch.id ch.now c.csn k.sound o ch.chosen in
     record {
       sound = subst IsSoundNode (takes-parts n old c) (takes-moves (with_csn n old c.csn) c both.0.sound both.1).sound;
+      arrival = arrives;
       entries = entries-taken heads new n.taken c k.entries raised;
     }

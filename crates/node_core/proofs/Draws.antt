@@ -8,9 +8,8 @@ use Rattle.repl_data.specs.Order.{csn_lt, number_of}
 use Rattle.vector_core.proofs.Lists.{if_true, if_false}
 use Rattle.pending_core.specs.declared.generator.Generator.{Generator}
 use Rattle.pending_core.specs.Draw.{draw, generator_at, is_before, raised_to}
-use Rattle.node_core.specs.declared.fault.BeginFault.TheVariants as begin
 use Rattle.node_core.specs.Node.{Node}
-use Rattle.node_core.specs.Steps.{moment_of, csn_at, csn_for, begun_at, begin_answer}
+use Rattle.node_core.specs.Steps.{NoTicket, Full, moment_of, csn_at, csn_for, begun_at, begin_answer}
 use Rattle.node_core.specs.Sound.{IsPlain, number_at, IsReached}
 use Rattle.node_core.proofs.Orders.{cmp_less, cmp_equal, cmp_greater}
 
@@ -62,7 +61,7 @@ reached_below last m rid c p r h =
 pub begun-drawn : (n : Node) (now : ℕ) (csn : Csn) → begin_answer n now ≡ Ok csn → (m : ℕ × ℕ) × (draw n.last now ≡ Some m) × (csn_at n.rid m ≡ csn)
 begun-drawn n now csn e =
     elim (cases_Bool (nat_le 1024 (length n.pending))) [
-      | inl t ↦ (let c : Err begin.Full ≡ Ok csn = sym (if_true _ _ t) ∙ e in absurd cc)
+      | inl t ↦ (let c : Err Full ≡ Ok csn = sym (if_true _ _ t) ∙ e in absurd cc)
       | inr f ↦ from_draw (draw n.last now) refl (sym (if_false _ _ f) ∙ e)
     ]
   where

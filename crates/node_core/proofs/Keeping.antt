@@ -11,6 +11,7 @@ use Rattle.vector_core.specs.declared.answers.Applied.TheVariants.{Taken}
 use Rattle.repl_data.specs.Order.{csn_lt, number_of, zero_csn, uid_eq}
 use Rattle.repl_data.specs.declared.csn.Uid.{Uid}
 use Rattle.repl_data.specs.Facts.{added_ids, ids_added}
+use Rattle.repl_data.specs.Closed.{IsArrival}
 use Rattle.std.specs.List.{list_any}
 use Rattle.vector_core.specs.Greatest.{later_of, greatest}
 use Rattle.vector_core.specs.Vector.{HasEntries, IsMerged, IsRaised, entry_of}
@@ -19,17 +20,17 @@ use Rattle.vector_core.proofs.Entries.{entry_of-push}
 use Rattle.vector_core.proofs.Lists.{if_true, if_false, Contains-nil}
 use Rattle.pending_core.specs.Draw.{draw}
 use Rattle.pending_core.specs.Pending.{IsAbove, without}
-use Rattle.node_core.specs.declared.fault.BeginFault.TheVariants as begin
 use Rattle.change_log.specs.Log.{csns_of}
 use Rattle.repl_data.specs.declared.change.Suffix.{Suffix}
 use Rattle.node_core.specs.Node.{Node, front, new_node}
-use Rattle.node_core.specs.Steps.{begin_answer, begun_at, csn_at, after_begin, after_apply}
+use Rattle.node_core.specs.Steps.{NoTicket, Full, Exhausted, begin_answer, begun_at, csn_at, after_begin, after_apply}
 use Rattle.node_core.specs.Sound.{IsPlain, IsSoundNode}
 use Rattle.node_core.specs.Kept.{IsKept, IsNext}
 use Rattle.node_core.proofs.Orders.{number_lt}
 use Rattle.node_core.proofs.Draws.{Some-same, None-Some, draw-above, reached_below}
 use Rattle.node_core.proofs.Fronts.{csns-from, front_other-above}
 use Rattle.node_core.proofs.Applies.{Fits, taken-means, takes_one}
+use Rattle.node_core.proofs.ClosedSteps.{apply_closed}
 use Rattle.node_core.proofs.NodeSteps.{with_pending, shrinks, draws, without-Contains}
 
 -- ---- less is pending
@@ -37,12 +38,13 @@ use Rattle.node_core.proofs.NodeSteps.{with_pending, shrinks, draws, without-Con
 pub kept-without : (n : Node) (heads : List Csn) (csn : Csn) → IsKept n heads → IsKept (with_pending n (without n.pending csn)) heads
 kept-without n heads csn k = record {
   sound = (shrinks n (without n.pending csn) k.sound (without-Contains csn n.pending)).sound;
+  arrival = k.arrival;
   entries = k.entries;
 }
 
 -- ---- a draw
 
-pub begin_full : (n : Node) (now : ℕ) → 1024 ≤ length n.pending → begin_answer n now ≡ Err begin.Full
+pub begin_full : (n : Node) (now : ℕ) → 1024 ≤ length n.pending → begin_answer n now ≡ Err Full
 begin_full n now h = if_true _ _ (le-leb 1024 (length n.pending) h)
 
 -- a drawn CSN, with the pair that was drawn
@@ -60,7 +62,7 @@ draw_none n now e = by_draw (draw n.last now) refl e
     by_draw None d b = d
     by_draw (Some pair) d b = absurd (None-Some (sym b))
 
-pub begin_exhausted : (n : Node) (now : ℕ) → length n.pending < 1024 → option_map (csn_at n.rid) (draw n.last now) ≡ None → begin_answer n now ≡ Err (begin.Exhausted (n.last.time, n.last.seq))
+pub begin_exhausted : (n : Node) (now : ℕ) → length n.pending < 1024 → option_map (csn_at n.rid) (draw n.last now) ≡ None → begin_answer n now ≡ Err (Exhausted (n.last.time, n.last.seq))
 begin_exhausted n now f d = if_false _ _ (lt-leb 1024 (length n.pending) f) ∙ ap (begun_at n) (draw_none n now d)
 
 pub begin_drawn : (n : Node) (now : ℕ) (csn : Csn) → length n.pending < 1024 → option_map (csn_at n.rid) (draw n.last now) ≡ Some csn → begin_answer n now ≡ Ok csn
@@ -85,7 +87,7 @@ kept-drawn n heads now csn k e =
     let d = drawn_pair n now csn e in
     let up = draw-above n.last now d.0 k.sound.last_fits d.1 in
     subst (λ z. IsKept (after_begin n (Ok z)) heads) d.2
-    (record { sound = (draws n n.pending d.0 k.sound (λ p h. h) up.0 up.1).sound; entries = k.entries })
+    (record { sound = (draws n n.pending d.0 k.sound (λ p h. h) up.0 up.1).sound; arrival = k.arrival; entries = k.entries })
 
 -- ---- the greatest CSN of each originator
 
@@ -135,9 +137,17 @@ fresh-next n c s next seq rid h =
     let high : number_of (front n u.change.csn.rid) < number_of u.change.csn = t.above in
     omega arith
 
+-- it comes after what it needs
+pub next-arrives : (n : Node) (c : Change) → IsSoundNode n → IsArrival n.taken → IsNext n c → c.csn.seq < 65536 → c.csn.rid < 65536 → IsArrival (n.taken ++ c ∷ [])
+next-arrives n c s arrival next seq rid =
+    subst (λ z. IsArrival (after_apply n z (Ok Taken)).taken) next.change
+    (subst (λ a. IsArrival (after_apply n next.update.change a).taken) next.answer
+    (apply_closed n next.from next.update next.now false s (next-fits c next.update next.change seq rid) arrival))
+
 pub kept-next : (n : Node) (heads new : List Csn) (c : Change) → IsKept n heads → IsNext n c → c.csn.seq < 65536 → c.csn.rid < 65536 → IsRaised heads new c.csn → IsKept (after_apply n c (Ok Taken)) new
 kept-next n heads new c k next seq rid raised = record {
   sound = next-takes n c k.sound next seq rid;
+  arrival = next-arrives n c k.sound k.arrival next seq rid;
   entries = entries-taken heads new n.taken c k.entries raised;
 }
 
@@ -176,6 +186,7 @@ nothing-new suffix rid above fits = record {
     pending_reached = λ p h. absurd (Contains-nil h);
     once = λ c d h k e. absurd (Contains-nil h);
   };
+  arrival = record { once = refl; sound = refl; rooted = refl };
   entries = λ o. refl;
 }
 

@@ -22,3 +22,5 @@ pub mod Refusals
 pub mod Shows
 pub mod Verdicts
 pub mod OpenTickets
+pub mod Judging
+pub mod OwnEntries

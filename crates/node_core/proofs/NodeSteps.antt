@@ -10,9 +10,8 @@ use Rattle.repl_data.proofs.CsnTests.{csn_eq-same, csn_eq-not_lt}
 use Rattle.vector_core.proofs.Lists.{if_true, if_false, Contains-filter}
 use Rattle.pending_core.specs.Draw.{generator_at}
 use Rattle.pending_core.specs.Pending.{without}
-use Rattle.node_core.specs.declared.fault.BeginFault.{BeginFault}
 use Rattle.node_core.specs.Node.{Node}
-use Rattle.node_core.specs.Steps.{moment_of, csn_at, begin_answer, after_begin, with_csn, takes, ended}
+use Rattle.node_core.specs.Steps.{NoTicket, moment_of, csn_at, begin_answer, after_begin, with_csn, takes, ended}
 use Rattle.node_core.specs.Sound.{IsPlain, IsSoundNode, number_at, IsReached, IsOpen}
 use Rattle.node_core.proofs.Orders.{number_lt}
 use Rattle.node_core.proofs.Moves.{IsFresh, was_pending, above_all, Moves}
@@ -115,7 +114,7 @@ draws n pending m s sub up fits = record {
 pub begin-moves : (n : Node) (now : ℕ) → IsSoundNode n → MovesAlone n (after_begin n (begin_answer n now))
 begin-moves n now s = by_answer (begin_answer n now) refl
   where
-    by_answer : (a : Result Csn BeginFault) → begin_answer n now ≡ a → MovesAlone n (after_begin n a)
+    by_answer : (a : Result Csn NoTicket) → begin_answer n now ≡ a → MovesAlone n (after_begin n a)
     by_answer (Ok csn) e =
         (let d = begun-drawn n now csn e in
         let up = draw-above n.last now d.0 s.last_fits d.1 in

@@ -12,7 +12,7 @@ use Rattle.repl_data.specs.declared.change.Malformed.{Malformed}
 use Rattle.repl_data.specs.Order.{csn_eq, uid_eq, suffix_id}
 use Rattle.repl_data.specs.Check.{fault_of, is_out_of_order}
 use Rattle.repl_data.specs.Facts.{ids_added, added_ids}
-use Rattle.repl_data.specs.Closed.{needed, is_known, is_sound}
+use Rattle.repl_data.specs.Closed.{IsArrival, needed, is_known, is_sound}
 use Rattle.repl_data.proofs.Sound.{both_true, neither, not_false, sound_order}
 use Rattle.repl_data.proofs.Orders.{csn_exact}
 use Rattle.repl_data.proofs.InOrder.{is_equal}
@@ -26,27 +26,12 @@ use Rattle.node_core.specs.Kept.{AreAdds, IsShown}
 use Rattle.node_core.proofs.Fronts.{csns-in}
 use Rattle.node_core.proofs.Arrivals.{arrival_push}
 
--- a change whose CSN is not among these is another one than each of them
-apart : (xs : List Change) (c d : Change) → (Contains (csns_of xs) c.csn → ⊥) → Contains xs d → csn_eq d.csn c.csn ≡ false
-apart xs c d fresh h =
-    elim (cases_Bool (csn_eq d.csn c.csn)) [
-      | inr f ↦ f
-      | inl t ↦ absurd (fresh (subst (λ z. Contains (csns_of xs) z) (csn_exact d.csn c.csn (is_equal _ t)) (csns-in xs d h)))
-    ]
-
 all_push : (p : Change → Bool) (xs : List Change) (c : Change) → list_all p xs ≡ true → p c ≡ true → list_all p (xs ++ c ∷ []) ≡ true
 all_push p [] c h e = and_from (p c) true e refl
 all_push p (x ∷ xs) c h e = (let q = both_true _ _ h in and_from (p x) _ q.0 (all_push p xs c q.1 e))
 
-no_fault_of : (o : Option Malformed) → is_none o ≡ true → o ≡ None
-no_fault_of None h = refl
-no_fault_of (Some why) h = absurd cc
-
-pub adds-push : (xs : List Change) (c : Change) → AreAdds xs → (Contains (csns_of xs) c.csn → ⊥) → is_add c ≡ true → is_sound c ≡ true → is_known xs (needed c.target c.body) ≡ true → AreAdds (xs ++ c ∷ [])
-adds-push xs c a fresh add sound known = record {
-  adds = all_push is_add xs c a.adds add;
-  arrival = arrival_push xs c a.arrival (λ d h. apart xs c d fresh h) (no_fault_of (fault_of c) sound) known;
-}
+pub adds-push : (xs : List Change) (c : Change) → AreAdds xs → IsArrival (xs ++ c ∷ []) → is_add c ≡ true → AreAdds (xs ++ c ∷ [])
+adds-push xs c a arrives add = record { adds = all_push is_add xs c a.adds add; arrival = arrives }
 
 -- ---- what is known by adds
 

@@ -18,10 +18,9 @@ use Rattle.vector_core.specs.declared.answers.ApplyFault.{ApplyFault}
 use Rattle.vector_core.specs.declared.answers.AcquireFault.{AcquireFault}
 use Rattle.vector_core.proofs.Lists.{if_true, if_false, filter-Contains}
 use Rattle.pending_core.specs.Pending.{without}
-use Rattle.node_core.specs.declared.fault.BeginFault.{BeginFault}
 use Rattle.node_core.specs.Node.{Node}
 use Rattle.ldap_rules.specs.Laws.{target_at, change_at}
-use Rattle.node_core.specs.Steps.{csn_at, csn_for, after_begin, CommitAnswer, Stale, Refused, CommitExhausted, KeeperFailed, Committed, kept_at, judged, commit_answer, with_csn, after_commit, ended, after_acquire, released, is_held_by, apply_answer, after_apply}
+use Rattle.node_core.specs.Steps.{NoTicket, csn_at, csn_for, after_begin, CommitAnswer, Stale, Refused, CommitExhausted, KeeperFailed, Committed, kept_at, judged, commit_answer, with_csn, after_commit, ended, after_acquire, released, is_held_by, apply_answer, after_apply}
 use Rattle.node_core.specs.Sound.{IsSoundNode, IsOpen}
 use Rattle.node_core.proofs.Orders.{plain_same, eq_same}
 use Rattle.node_core.proofs.Draws.{draw-above, reached_below, csn_for-cases}
@@ -48,7 +47,7 @@ spares-then a b c used f g = record {
   pends = λ p u h. g.pends p u (f.pends p u h);
 }
 
-pub begin-spares : (n : Node) (a : Result Csn BeginFault) → Spares n (after_begin n a) Unused
+pub begin-spares : (n : Node) (a : Result Csn NoTicket) → Spares n (after_begin n a) Unused
 begin-spares n (Ok csn) = record {
   same_life = refl;
   opens = λ p u o. record { is_pending = Contains-append_left n.pending (csn ∷ []) p o.is_pending; not_taken = o.not_taken };

@@ -1,11 +1,13 @@
 -- What each call of a node says, by the node that it met, its result, and the node that it left.
-use Rattle.std.specs.Prelude.{◌≡◌, ◌≢◌, Bool, ℕ, ◌+◌, ◌-◌, ◌^◌, ◌≤◌, ◌↔◌, ◌⊎◌, min, true, false, Contains, List, length, Some, None, Result, Ok, Err}
+use Rattle.std.specs.Prelude.{◌≡◌, ◌≢◌, Bool, ◌&&◌, not, ℕ, ◌≤◌, ◌↔◌, ◌⊎◌, true, false, Contains, List, length, Some, None, Result, Ok, Err}
+use Rattle.std.specs.List.{list_any}
 use Rattle.repl_data.specs.declared.csn.Csn.{Csn}
 use Rattle.repl_data.specs.declared.change.Update.{Update}
 use Rattle.repl_data.specs.declared.items.NoMemory.{NoMemory}
+use Rattle.io_edge.specs.Causes.{Rose}
 use Rattle.ldap_types.specs.declared.request.Request.{Request}
 use Rattle.ldap_types.specs.declared.reply.Identity.{Identity}
-use Rattle.ldap_rules.specs.Verdict.{Verdict, is_built, is_update}
+use Rattle.ldap_rules.specs.Verdict.{Verdict, is_built, is_update, is_update_control}
 use Rattle.vector_core.specs.declared.answers.Start.{Start}
 use Rattle.vector_core.specs.declared.answers.Offer.{Offer}
 use Rattle.vector_core.specs.declared.answers.Offer.TheVariants as offered
@@ -23,12 +25,39 @@ use Rattle.node_core.specs.declared.ticket.Receipt.{Receipt}
 use Rattle.pending_core.specs.Draw.{generator_at}
 use Rattle.change_log.specs.Log.{csns_of}
 use Rattle.node_core.specs.Node.{Node}
-use Rattle.node_core.specs.Steps.{Judge, CommitAnswer, Stale, Refused, CommitExhausted, KeeperFailed, Committed, begin_answer, after_begin, verdict_at, commit_answer, after_commit, offer, apply_answer, after_apply, acquire_fault, after_acquire}
+use Rattle.node_core.specs.Steps.{Judge, CommitAnswer, Stale, Refused, CommitExhausted, KeeperFailed, Committed, NoTicket, Full, Exhausted, begin_answer, after_begin, verdict_at, commit_answer, after_commit, offer, apply_answer, after_apply, acquire_fault, after_acquire}
+
+-- ---- how a node is reached
+
+-- by the values of a type
+pub record Reach (N : Type 0) : Type 1 where
+  -- the node, as the last call left it
+  pub node : N → Node
+  -- the node that the call met which led from the one value to the other
+  pub met : N → N → Node
+  -- the one node may come from the other by steps of others
+  pub follows : N → Node → Node → Type 0
+  -- all that stands beside the node is as it was
+  pub keeps : N → N → Type 0
+  -- how many calls of the keeper failed, and 0 where there is no keeper
+  pub faults : N → ℕ
+
+-- WHAT EVERY CALL KEEPS, which leads from the one value to the other
+pub record IsCall {N : Type 0} (c : Reach N) (old new : N) : Type 0 where
+  -- steps of others may lie between the last call and this one
+  pub meets : c.follows old (c.node old) (c.met old new)
+  pub beside : c.keeps old new
+  -- they start no node again
+  pub life : (c.met old new).life ≡ (c.node old).life
+  pub count : c.faults old ≤ c.faults new
+
+-- ---- what each call says
 
 abbrev pub Begins : Node → ℕ → Result Ticket BeginFault → Node → Type 0
 Begins met now (Ok ticket) left = (begin_answer met now ≡ Ok ticket.csn) × (ticket.life ≡ met.life) × (left ≡ after_begin met (Ok ticket.csn))
 Begins met now (Err begin.NoMemory) left = left ≡ met
-Begins met now (Err fault) left = (begin_answer met now ≡ Err fault) × (left ≡ met)
+Begins met now (Err begin.Full) left = (begin_answer met now ≡ Err Full) × (left ≡ met)
+Begins met now (Err (begin.Exhausted last)) left = (begin_answer met now ≡ Err (Exhausted last)) × (left ≡ met)
 
 -- the answer to a ticket under a verdict, where the keeper fails if `fails` says so, and the node that it leaves
 abbrev pub Answers : Node → Ticket → Verdict → ℕ → Bool → CommitAnswer → Node → Type 0
@@ -55,6 +84,10 @@ Commits judge met ticket request bound now result left = CommitsUnder met ticket
 pub record IsWrite (request : Request) (bound : Identity) : Type 0 where
   pub built : is_built request.op ≡ true
   pub no_update : is_update request bound ≡ false
+
+-- THE WRITES OF CLIENTS THAT ARE BUILT: the rules of the operation are written, and it is no update of another server
+abbrev pub is_client_write : Request → Bool
+is_client_write request = is_built request.op && not (list_any is_update_control request.controls)
 
 abbrev pub Acquires : Node → Start → ℕ → Result Unit AcquireFault → Node → Type 0
 Acquires met start now (Ok done) left = (acquire_fault met start.suffix start.rid start.front now ≡ None) × (left ≡ after_acquire met start.rid None)
@@ -106,10 +139,6 @@ pub record IsPendingTaken (n : Node) (csn : Csn) : Type 0 where
   pub is_taken : Contains (csns_of n.taken) csn
 
 -- ---- the keeper
-
--- a count of faults has risen, or stands at its end
-abbrev pub Rose : ℕ → ℕ → Type 0
-Rose old new = min (old + 1) (2 ^ 64 - 1) ≤ new
 
 -- only a fault of the keeper raises the count
 abbrev pub CommitCause : ℕ → ℕ → Result Receipt (Ticket × CommitFault) → Type 0

@@ -16,9 +16,11 @@ use Rattle.node_core.specs.Node.{Node}
 use Rattle.node_core.specs.Steps.{csn_for, apply_answer}
 use Rattle.node_core.specs.Sound.{IsSoundNode}
 
--- the node is sound, and beside it stands the greatest CSN of each originator that it has taken
+-- The node is sound, and what it has taken came each after what it needs. Beside it stands the greatest CSN of each originator
+-- that it has taken.
 pub record IsKept (n : Node) (heads : List Csn) : Type 0 where
   pub sound : IsSoundNode n
+  pub arrival : IsArrival n.taken
   pub entries : HasEntries heads (csns_of n.taken)
 
 -- a CSN that a commit takes for a pending one: the same, or a newly drawn one

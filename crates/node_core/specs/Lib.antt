@@ -1,5 +1,6 @@
 pub mod Node
 pub mod Steps
 pub mod Sound
+pub mod Answers
 pub mod Calls
 pub mod Kept

@@ -6,11 +6,15 @@ use Rattle.repl_data.specs.declared.csn.Uid.{Uid}
 use Rattle.repl_data.specs.declared.change.Body.{Body}
 use Rattle.repl_data.specs.Order.{csn_lt, number_of}
 use Rattle.repl_data.specs.Check.{fault_of}
-use Rattle.repl_data.specs.Closed.{is_known, needed}
+use Rattle.repl_data.specs.declared.change.Suffix.{Suffix}
+use Rattle.repl_data.specs.Closed.{is_known, needed, IsClosed}
+use Rattle.ldap_types.specs.declared.request.Request.{Request}
+use Rattle.ldap_types.specs.declared.reply.Identity.{Identity}
+use Rattle.ldap_rules.specs.Verdict.{Writes}
 use Rattle.pending_core.specs.declared.generator.Generator.{Generator}
 use Rattle.node_core.specs.Node.{Node, front}
 use Rattle.ldap_rules.specs.Laws.{target_at, change_at}
-use Rattle.node_core.specs.Steps.{moment_of}
+use Rattle.node_core.specs.Steps.{Judge, moment_of}
 
 -- the CSN of a change: each part within 16 bits, and subsequence 0
 pub record IsPlain (c : Csn) : Type 0 where
@@ -47,6 +51,18 @@ pub record GoesOn (old new : Node) : Type 0 where
   pub front_rises : number_of (front old old.rid) ≤ number_of (front new old.rid)
   pub closed_below : (c : Change) → Contains new.taken c → c.csn.rid ≡ old.rid → number_of c.csn ≤ number_of (front old old.rid) → Contains old.taken c
 
+-- of a node's own changes the greatest that has none pending at or below it, and zero where there is none
+pub data IsOwnEntry (n : Node) (entry : Csn) : Type 0 where
+  none_free :
+      number_of entry ≡ 0 →
+      ((c : Change) → Contains n.taken c → c.csn.rid ≡ n.rid → (p : Csn) × Contains n.pending p × (number_of p ≤ number_of c.csn)) →
+      IsOwnEntry n entry
+  greatest_free :
+      (c : Change) → Contains n.taken c → c.csn.rid ≡ n.rid → c.csn ≡ entry →
+      ((p : Csn) → Contains n.pending p → number_of entry < number_of p) →
+      ((d : Change) → Contains n.taken d → d.csn.rid ≡ n.rid → number_of entry < number_of d.csn → (p : Csn) × Contains n.pending p × (number_of p ≤ number_of d.csn)) →
+      IsOwnEntry n entry
+
 -- the CSN of a ticket that may be committed: it is pending, and not taken
 pub record IsOpen (n : Node) (csn : Csn) : Type 0 where
   pub is_pending : Contains n.pending csn
@@ -58,3 +74,9 @@ pub record IsSoundWrite (taken : List Change) (target : Option Uid) (body : Body
   pub one_need : (a b : Csn) → needed (target_at a target) body ≡ needed (target_at b target) body
   pub known : (a : Csn) → is_known taken (needed (target_at a target) body) ≡ true
   pub passes : (a : Csn) → IsPlain a → 0 < a.rid → a.rid < 65535 → csn_lt (needed (target_at a target) body).csn a ≡ true → fault_of (change_at a target body) ≡ None
+
+-- a refusal table that gives such verdicts alone
+abbrev pub IsSoundJudge : Judge → Type 0
+IsSoundJudge judge =
+    (suffix : Suffix) → (taken : List Change) → IsClosed taken → (request : Request) → (bound : Identity) → (target : Option Uid) → (body : Body) →
+    judge suffix taken request bound ≡ Writes target body → IsSoundWrite taken target body

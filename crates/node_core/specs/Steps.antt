@@ -27,8 +27,6 @@ use Rattle.vector_core.specs.declared.answers.AcquireFault.TheVariants as acquir
 use Rattle.pending_core.specs.declared.generator.Generator.{Generator}
 use Rattle.pending_core.specs.Draw.{draw, generator_at, raised_to}
 use Rattle.pending_core.specs.Pending.{without}
-use Rattle.node_core.specs.declared.fault.BeginFault.{BeginFault}
-use Rattle.node_core.specs.declared.fault.BeginFault.TheVariants as begin
 use Rattle.node_core.specs.Node.{Node, front, is_covered, update_of}
 
 abbrev pub csn_at : ℕ → ℕ × ℕ → Csn
@@ -37,16 +35,31 @@ csn_at rid pair = record { time = pair.0; seq = pair.1; rid = rid; sub = 0 }
 abbrev pub moment_of : Csn → Generator
 moment_of c = generator_at (c.time, c.seq)
 
+-- ---- limits
+
+-- how many CSNs may be pending at a node
+abbrev pub pending_limit : ℕ
+pending_limit = 1024
+
+-- how far a time of another node may be ahead: a day, in seconds
+abbrev pub day : ℕ
+day = 86400
+
 -- ---- begin: draw a CSN, and make it pending
 
-abbrev pub begun_at : Node → Option (ℕ × ℕ) → Result Csn BeginFault
-begun_at n None = Err (begin.Exhausted (n.last.time, n.last.seq))
+-- why a node draws no CSN
+pub data NoTicket : Type 0 where
+  Full : NoTicket
+  Exhausted : (last : ℕ × ℕ) → NoTicket
+
+abbrev pub begun_at : Node → Option (ℕ × ℕ) → Result Csn NoTicket
+begun_at n None = Err (Exhausted (n.last.time, n.last.seq))
 begun_at n (Some pair) = Ok (csn_at n.rid pair)
 
-abbrev pub begin_answer : Node → ℕ → Result Csn BeginFault
-begin_answer n now = if nat_le 1024 (length n.pending) then Err begin.Full else begun_at n (draw n.last now)
+abbrev pub begin_answer : Node → ℕ → Result Csn NoTicket
+begin_answer n now = if nat_le pending_limit (length n.pending) then Err Full else begun_at n (draw n.last now)
 
-abbrev pub after_begin : Node → Result Csn BeginFault → Node
+abbrev pub after_begin : Node → Result Csn NoTicket → Node
 after_begin n (Ok csn) = record n { last = moment_of csn; pending = n.pending ++ csn ∷ [] }
 after_begin n (Err fault) = n
 
@@ -58,7 +71,7 @@ Judge = Suffix → List Change → Request → Identity → Verdict
 
 -- the table of LDAP, on the view of what is taken
 abbrev pub judge_view : Judge
-judge_view suffix taken request bound = verdict_of (view_of suffix taken) suffix request bound
+judge_view suffix taken request bound = verdict_of (view_of suffix taken) request bound
 
 abbrev pub verdict_at : Judge → Node → Request → Identity → Verdict
 verdict_at judge n request bound = judge n.suffix n.taken request bound
@@ -159,7 +172,7 @@ form_fault u = or_prev u (fault_of u.change)
 
 -- a time, in seconds, that is more than a day ahead
 abbrev pub is_too_late : ℕ → ℕ → Bool
-is_too_late now time = nat_lt (now + 86400) time
+is_too_late now time = nat_lt (now + day) time
 
 -- what is answered to an update that is well formed, from the holder
 abbrev pub taken_answer : Node → Update → ℕ → Bool → Result Applied ApplyFault

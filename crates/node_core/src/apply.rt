@@ -146,7 +146,8 @@ impl NodeState {
         ensures ok { OnOk result (self.new ≡ after_apply self.old change (Ok Applied.Taken)) }
         ensures err { OnErr result (self.new ≡ self.old) }
     {
-        let _number = (change.csn.seq, change.csn.rid);
+        // For the prover alone: numbers that are read are known to be within their range.
+        let _numbers = (change.csn.seq, change.csn.rid);
         self.log.reserve(alloc, 1)?;
         let heads = raised(alloc, &self.heads, change.csn)?;
         show(

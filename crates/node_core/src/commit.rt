@@ -1,18 +1,21 @@
 //! A commit, by its cases in order.
 
-ghost use Rattle.std.specs.Prelude.{false, ◌≡◌, ◌≢◌, Ok, Err, Some, None, option_map, if◌then◌else◌, OnOk, OnErr, MatchResult, ◌++◌, ◌∷◌, [], Contains};
+ghost use Rattle.std.specs.Prelude.{Option, false, ◌≡◌, ◌≢◌, Ok, Err, Some, None, option_map, if◌then◌else◌, OnOk, OnErr, MatchResult, ◌++◌, ◌∷◌, [], Contains};
 ghost use Rattle.repl_data.specs.Order.{csn_eq};
-ghost use Rattle.repl_data.specs.Closed.{needed};
+ghost use Rattle.repl_data.specs.declared.csn.Uid.{Uid};
+ghost use Rattle.repl_data.specs.declared.change.Body.{Body};
+ghost use Rattle.repl_data.specs.Closed.{needed, IsArrival};
 ghost use Rattle.ldap_rules.specs.Verdict.{Writes, IsVerdict};
 ghost use Rattle.pending_core.specs.Pending.{without, IsAbove};
 ghost use Rattle.ldap_rules.specs.Laws.{target_at};
 ghost use Rattle.node_core.specs.Steps.{csn_for, moment_of, with_csn, takes, judge_view, verdict_at};
 ghost use Rattle.node_core.specs.Calls.{Commits, CommitsUnder, IsWrite, IsPending, IsPendingTaken};
 ghost use Rattle.node_core.specs.Kept.{IsChosen};
-ghost use Rattle.node_core.specs.Sound.{IsOpen};
+ghost use Rattle.node_core.specs.Sound.{IsOpen, IsSoundWrite};
 
 use crate::apply::{needed, raised};
 use crate::fault::CommitFault;
+use crate::laws::judge_laws;
 use crate::node::{NodeState, draw};
 use crate::shown::show;
 use crate::ticket::{Receipt, Ticket};
@@ -64,6 +67,7 @@ impl NodeState {
     fn take_own(&mut self, alloc: Global, old: Csn, change: Change) -> Result<(), NoMemory>
         requires open { IsOpen self.old old }
         requires chosen { IsChosen self.old old change.csn }
+        requires arrives { IsArrival (self.old.taken ++ change ∷ []) }
         ensures ok { OnOk result (self.new ≡ takes (with_csn self.old old change.csn) change) }
         ensures err { OnErr result (self.new ≡ self.old) }
     {
@@ -94,6 +98,7 @@ impl NodeState {
     ) -> Result<Receipt, (Ticket, CommitFault)>
         requires life { ticket.life ≡ self.old.life }
         requires open { IsOpen self.old ticket.csn }
+        requires sound { IsSoundWrite self.old.taken target body }
         ensures step { CommitsUnder self.old ticket (Writes target body) now result self.new }
         ensures keeper { MatchResult result (λ _. Unit {0}) (λ e. e.1 ≢ CommitFault.KeeperFault) }
     {
@@ -116,11 +121,14 @@ impl NodeState {
     }
 
     /// What the rules make of a request, on the view of what the node has taken.
+    #[tactic(auto, using(ldap_rules::proofs::Ops::built_judged))]
     fn judge(&self, alloc: Global, request: &Request, bound: Identity) -> Result<Judged, JudgeFault>
         requires { IsWrite request.now bound }
-        ensures { IsVerdict result (verdict_at judge_view self.now request.now bound) }
+        ensures verdict { IsVerdict result (verdict_at judge_view self.now request.now bound) }
+        ensures sound { (target : Option Uid) (body : Body) → verdict_at judge_view self.now request.now bound ≡ Writes target body → IsSoundWrite self.now.taken target body }
     {
-        judge(alloc, &self.view, &self.suffix, request, bound)
+        judge_laws();
+        judge(alloc, &self.view, request, bound)
     }
 
     /// Carries out a write under a ticket, at the time `now` in seconds since 1970. Where it is

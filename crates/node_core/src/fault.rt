@@ -1,12 +1,17 @@
 //! Why a begin or a commit fails.
 
-use ldap_types::LdapResult;
+ghost use Rattle.std.specs.Prelude.{◌≡◌, IfOk};
+ghost use Rattle.node_core.specs.Answers.{used_up};
+
+use ldap_types::{Code, LdapResult};
+use repl_data::{Bytes, NoMemory};
+use std::alloc::Global;
 
 /// Why no ticket is given.
 #[derive(Clone, Copy, Debug, Drop, Eq, PartialEq)]
 pub enum BeginFault {
     NoMemory,
-    /// 1,024 CSNs are pending.
+    /// As many CSNs are pending as may be: `pending_core::PLACES`.
     Full,
     /// No CSN is above the last one, whose time and sequence number these are.
     Exhausted { last: (u32, u16) },
@@ -23,4 +28,15 @@ pub enum CommitFault {
     /// The change needs a new CSN, and there is none above the last one.
     Exhausted { last: (u32, u16) },
     KeeperFault,
+}
+
+/// What a client is answered where no CSN is left: 53 unwillingToPerform (RFC 4511, appendix A).
+pub fn used_up(alloc: Global) -> Result<LdapResult, NoMemory>
+    ensures { IfOk result (λ answer. answer ≡ used_up) }
+{
+    Ok(LdapResult {
+        code: Code::UNWILLING_TO_PERFORM,
+        matched: Bytes::new(alloc),
+        text: Bytes::from_slice(alloc, b"csn space used up")?,
+    })
 }

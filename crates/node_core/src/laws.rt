@@ -12,8 +12,10 @@ ghost use Rattle.ldap_rules.specs.Verdict.{Verdict, Writes};
 ghost use Rattle.vector_core.specs.declared.answers.AcquireFault.{AcquireFault};
 ghost use Rattle.vector_core.specs.Vector.{entry_of, IsVector};
 ghost use Rattle.node_core.specs.Node.{Node, front, vector_of, update_of};
-ghost use Rattle.node_core.specs.Steps.{begin_answer, after_begin, commit_answer, after_commit, ended, apply_answer, after_apply, after_acquire, released, is_prev, offer};
-ghost use Rattle.node_core.specs.Sound.{IsSoundNode, GoesOn, IsOpen, IsSoundWrite};
+ghost use Rattle.node_core.specs.Steps.{judge_view, begin_answer, after_begin, commit_answer, after_commit, ended, apply_answer, after_apply, after_acquire, released, is_prev, offer};
+ghost use Rattle.node_core.specs.Sound.{IsSoundNode, GoesOn, IsOpen, IsSoundWrite, IsSoundJudge};
+
+use ldap_rules::rule_laws;
 
 /// A node stays sound and goes on through each of its steps: nothing that it has taken is lost, the own entry of its
 /// vector never falls, and nothing at or below that entry is committed later.
@@ -61,3 +63,11 @@ pub fn update_laws()
     // It is the least of those that lie beyond the other vector.
     ensures least { (n : Node) (beyond : List Csn) (u : Update) (d : Change) → IsSoundNode n → offer n beyond ≡ Some u → Contains n.taken d → number_of d.csn ≤ number_of (front n d.csn.rid) → number_of (entry_of beyond d.csn.rid) < number_of d.csn → number_of u.change.csn ≤ number_of d.csn }
 {}
+
+/// The refusal table of LDAP.
+pub fn judge_laws()
+    // What it accepts needs what is known, and passes the check at each CSN above that.
+    ensures sound { IsSoundJudge judge_view }
+{
+    rule_laws();
+}

@@ -3,6 +3,7 @@
 
 mod apply;
 mod calls;
+mod client;
 mod commit;
 mod fault;
 mod front;
@@ -13,8 +14,9 @@ mod shown;
 mod ticket;
 
 pub use calls::NodeCalls;
-pub use fault::{BeginFault, CommitFault};
-pub use laws::{arrival_laws, node_laws, update_laws, vector_laws};
+pub use client::is_client_write;
+pub use fault::{BeginFault, CommitFault, used_up};
+pub use laws::{arrival_laws, judge_laws, node_laws, update_laws, vector_laws};
 pub use ldap_types::Identity;
 pub use node::NodeState;
 pub use ticket::{Receipt, Ticket};

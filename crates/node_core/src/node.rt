@@ -5,7 +5,9 @@ ghost use Rattle.repl_data.specs.Order.{bytes_eq};
 ghost use Rattle.repl_data.specs.View.{view_of, dump_of};
 ghost use Rattle.vector_core.specs.Greatest.{greatest, later_of};
 ghost use Rattle.pending_core.specs.Draw.{draw};
-ghost use Rattle.node_core.specs.Node.{new_node};
+ghost use Rattle.repl_data.specs.Closed.{IsArrival, IsClosed};
+ghost use Rattle.node_core.specs.Node.{new_node, front};
+ghost use Rattle.node_core.specs.Sound.{IsSoundNode, IsOwnEntry};
 ghost use Rattle.node_core.specs.Steps.{csn_at, moment_of, ended, is_too_late, acquire_past, acquire_fault, released};
 ghost use Rattle.node_core.specs.Calls.{Begins, Acquires, IsPending, IsPendingTaken};
 
@@ -18,6 +20,9 @@ use repl_data::{Change, Csn, NoMemory, ShownEntryList, Suffix};
 use std::alloc::{AllocError, Global};
 use std::marker::Model;
 use vector_core::{AcquireFault, Start, Vector};
+
+/// How far a time of another node may be ahead, in seconds.
+const DAY: u64 = 86_400;
 
 /// One node: the changes that it has taken, what it has drawn and not settled, and who holds it.
 ///
@@ -70,6 +75,24 @@ impl NodeState {
             view,
             grows: true,
         })
+    }
+
+    /// What holds of every node, whatever it was given.
+    pub fn laws(&self)
+        // The generator is at or above each taken and each pending CSN. Each pending CSN is the node's own.
+        ensures sound { IsSoundNode self.now }
+
+        // What it has taken is well formed, each CSN stands in it once, and each change came after what it needs.
+        ensures arrival { IsArrival self.now.taken }
+
+        // So it is a closed set.
+        ensures closed { IsClosed self.now.taken }
+
+        // The own entry of its vector is its greatest change that has no pending CSN at or below it.
+        ensures own_entry { IsOwnEntry self.now (front self.now self.now.rid) }
+    {
+        // For the prover alone: what the type keeps is known once the node is looked at.
+        let _ = &self.rid;
     }
 
     pub fn suffix(&self) -> &Suffix
@@ -149,7 +172,7 @@ impl NodeState {
     pub fn abort(&mut self, ticket: Ticket)
         requires open { ticket.life ≡ self.old.life → IsPending self.old ticket.csn }
         requires uncommitted { ticket.life ≡ self.old.life → IsPendingTaken self.old ticket.csn → ⊥ }
-        ensures { self.new ≡ ended self.old ticket.life ticket.csn }
+        ensures step { self.new ≡ ended self.old ticket.life ticket.csn }
     {
         let Ticket { csn, life } = ticket;
         if life == self.life {
@@ -160,8 +183,8 @@ impl NodeState {
     /// The CSN of a committed change is no longer pending. Nothing changes where the node was
     /// started again since.
     pub fn settle(&mut self, receipt: Receipt)
-        requires { receipt.life ≡ self.old.life → IsPendingTaken self.old receipt.csn }
-        ensures { self.new ≡ ended self.old receipt.life receipt.csn }
+        requires committed { receipt.life ≡ self.old.life → IsPendingTaken self.old receipt.csn }
+        ensures step { self.new ≡ ended self.old receipt.life receipt.csn }
     {
         let Receipt {
             csn,
@@ -205,7 +228,7 @@ impl NodeState {
 
     /// The supplier holds the node no longer.
     pub fn release(&mut self, rid: u16)
-        ensures { self.new ≡ released self.old rid }
+        ensures step { self.new ≡ released self.old rid }
     {
         if self.holder == Some(rid) {
             self.holder = None;
@@ -245,7 +268,7 @@ pub(crate) fn draw(generator: &mut Generator, rid: u16, now: u32) -> Option<Csn>
 pub(crate) fn is_too_late(now: u32, time: u32) -> bool
     ensures { result ≡ is_too_late now time }
 {
-    now as u64 + 86400 < time as u64
+    now as u64 + DAY < time as u64
 }
 
 fn later(a: Csn, b: Csn) -> Csn

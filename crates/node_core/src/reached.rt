@@ -15,36 +15,29 @@ impl NodeCalls for NodeState {
     ghost use Rattle.repl_data.specs.declared.csn.Csn.{Csn};
     ghost use Rattle.repl_data.specs.declared.change.Update.{Update};
     ghost use Rattle.node_core.specs.Node.{Node};
-    ghost use Rattle.node_core.specs.Calls.{IsPending, IsPendingTaken};
+    ghost use Rattle.node_core.specs.Calls.{Reach, IsPending, IsPendingTaken};
 
-    ghost node = { λ s. s };
-
-    ghost met = { λ old _. old };
-
-    ghost follows = { λ _ left meets. meets ≡ left };
+    // A call meets the node that the last one left.
+    ghost reach = { record { node = λ s. s; met = λ old _. old; follows = λ _ left meets. meets ≡ left; keeps = λ _ _. Unit {0}; faults = λ _. 0 } };
 
     ghost is_open = { IsPending };
 
     ghost is_committed = { IsPendingTaken };
 
-    ghost keeps = { λ _ _. Unit {0} };
-
     ghost heard = { λ _ update. update };
 
-    ghost faults = { λ _. 0 };
-
     fn begin(&mut self, _alloc: Global, now: u32) -> Result<Ticket, BeginFault> {
-        let _ = &self.rid;
+        self.laws();
         self.begin(now)
     }
 
     fn abort(&mut self, ticket: Ticket) {
-        let _ = &self.rid;
+        self.laws();
         self.abort(ticket);
     }
 
     fn settle(&mut self, receipt: Receipt) {
-        let _ = &self.rid;
+        self.laws();
         self.settle(receipt);
     }
 
@@ -67,7 +60,7 @@ impl NodeCalls for NodeState {
         update: &Update,
         now: u32,
     ) -> Result<Applied, ApplyFault> {
-        let _ = &self.rid;
+        self.laws();
         self.apply(alloc, from, update, now)
     }
 
@@ -83,7 +76,7 @@ impl NodeCalls for NodeState {
         bound: Identity,
         now: u32,
     ) -> Result<Receipt, (Ticket, CommitFault)> {
-        let _ = &self.rid;
+        self.laws();
         self.commit(alloc, ticket, request, bound, now)
     }
 }

@@ -5,16 +5,14 @@ ghost use Rattle.std.specs.List.{list_any};
 ghost use Rattle.repl_data.specs.declared.change.Change.{Change};
 ghost use Rattle.repl_data.specs.Order.{uid_eq, suffix_id};
 ghost use Rattle.repl_data.specs.Facts.{ids_added};
-ghost use Rattle.repl_data.specs.Closed.{is_known, is_sound};
+ghost use Rattle.repl_data.specs.Closed.{is_known, IsArrival};
 ghost use Rattle.plain_view.specs.Growth.{is_add};
-ghost use Rattle.change_log.specs.Log.{csns_of};
 ghost use Rattle.node_core.specs.Kept.{AreAdds, IsShown};
 
-use crate::apply::needed;
 use crate::front::copied;
 use change_log::ChangeLog;
 use plain_view::PlainView;
-use repl_data::{Body, Change, Csn, Items, NoMemory, Suffix, Uid, check};
+use repl_data::{Body, Change, Csn, Items, NoMemory, Suffix, Uid};
 use std::alloc::Global;
 
 /// The change adds this entry.
@@ -83,24 +81,13 @@ fn is_add(change: &Change) -> bool
     }
 }
 
-fn is_sound(change: &Change) -> bool
-    ensures { result ≡ is_sound change.now }
-{
-    check(change).is_ok()
-}
-
-/// The change is an add that may come next in an order of arrival.
-fn may_follow(log: &ChangeLog, change: &Change) -> bool
-    requires adds { AreAdds log.now.changes }
-    requires fresh { Contains (csns_of log.now.changes) change.now.csn → ⊥ }
+/// With the change, which comes in an order of arrival, the log still has adds alone.
+fn are_adds(log: &ChangeLog, grows: bool, change: &Change) -> bool
+    requires adds { grows ≡ true → AreAdds log.now.changes }
+    requires arrives { IsArrival (log.now.changes ++ change.now ∷ []) }
     ensures { IsTrue result → AreAdds (log.now.changes ++ change.now ∷ []) }
 {
-    if is_add(change) {
-        if is_sound(change) {
-            return is_known_by_csn(log, needed(change.target, &change.body));
-        }
-    }
-    false
+    grows && is_add(change)
 }
 
 /// Copies of the changes, and of one more.
@@ -125,12 +112,12 @@ pub(crate) fn show(
     grows: &mut bool,
     change: &Change,
 ) -> Result<(), NoMemory>
-    requires fresh { Contains (csns_of log.now.changes) change.now.csn → ⊥ }
+    requires arrives { IsArrival (log.now.changes ++ change.now ∷ []) }
     requires shown { IsShown suffix.now log.now.changes view.old grows.old }
     ensures ok { OnOk result (IsShown suffix.now (log.now.changes ++ change.now ∷ []) view.new grows.new) }
     ensures err { OnErr result (IsShown suffix.now log.now.changes view.new grows.new) }
 {
-    if *grows && may_follow(log, change) {
+    if are_adds(log, *grows, change) {
         return view.add(alloc, change);
     }
     let whole = followed(alloc, log.changes(), change)?;

@@ -1,5 +1,5 @@
 -- What each call of a node of a world says of the open tickets.
-use Rattle.std.proofs.Common.{◌≡◌, ◌≢◌, ℕ, inl, inr, false, refl, sym, ap, subst, ◌∙◌, Contains}
+use Rattle.std.proofs.Common.{◌≡◌, ◌≢◌, ◌≤◌, ℕ, List, inl, inr, false, refl, sym, ap, subst, ◌∙◌, arith, Contains}
 use Rattle.std.specs.Prelude.{Result, Ok, Err, IfOk, MatchResult}
 use Rattle.std.proofs.lemmas.Bool.{cases_Bool, cases_eq}
 use Rattle.vector_core.proofs.Lists.{if_true, if_false}
@@ -23,16 +23,34 @@ use Rattle.node_core.specs.declared.ticket.Receipt.{Receipt}
 use Rattle.change_log.specs.Log.{csns_of}
 use Rattle.node_core.specs.Node.{Node}
 use Rattle.node_core.specs.Steps.{judge_view, verdict_at, Committed, ended, is_held_by, released}
-use Rattle.node_core.specs.Calls.{AreSame, IsAdded, IsTaken, IsMoved, IsPending, IsPendingTaken, Begins, Commits, CommitsUnder, Acquires, Applies, csn_left}
+use Rattle.node_core.specs.Calls.{IsCall, AreSame, IsAdded, IsTaken, IsMoved, IsPending, IsPendingTaken, Begins, Commits, CommitsUnder, Acquires, Applies, csn_left}
 use Rattle.node_core.proofs.Spares.{CommitLeaves, commit_leaves, ended-spares}
 use Rattle.node_core.proofs.OpenTickets.{CommitLeaves as LeavesTickets, AreKept, kept-refl, ended-now, ended-stale, taken-none, begin-leaves, begin-open, begin-committed, begin-fresh, commit-leaves, commit-open, commit-committed, not_keeper, apply-keeps_tickets}
-use Rattle.world_core.specs.World.{World, node_in}
+use Rattle.world_core.specs.World.{World, node_of, with_node, node_in}
 use Rattle.world_core.specs.Laws.{IsNode, IsNoTicket}
 use Rattle.world_core.specs.Taken.{IsKept}
-use Rattle.world_core.specs.At.{At, reached, IsBeside, IsOpenAt, IsCommittedAt}
+use Rattle.world_core.specs.At.{At, reached, IsBeside, at_reach, IsOpenAt, IsCommittedAt}
+use Rattle.world_core.proofs.Honest.{node_of-here}
+use Rattle.world_core.proofs.Outcomes.{same_node}
 use Rattle.world_core.proofs.Failures.{fault-says}
 use Rattle.world_core.proofs.CallsKept.{IsUsable, usable-open, sound-at, committed-live}
 use Rattle.world_core.proofs.AtTickets.{IsAfter, apart-same, apart-taken, apart-added, apart-moved, begun-free, committed-free, commit-moves_free}
+
+-- ---- the node alone changes
+
+pub beside-of : (w : World) (n : ℕ) (nodes : List Node) → nodes ≡ with_node w.nodes n (node_of nodes n) → IsBeside (record { world = w; n = n }) (record { world = record w { nodes = nodes }; n = n })
+beside-of w n nodes e = record { same = refl; world = ap (λ ns. record w { nodes = ns }) e }
+
+-- the same where the node that is put is known
+pub others-of : (nodes new : List Node) (n : ℕ) (left : Node) → IsNode nodes n → new ≡ with_node nodes n left → new ≡ with_node nodes n (node_of new n)
+others-of nodes new n left i e = e ∙ ap (λ m. with_node nodes n m) (sym (ap (λ ns. node_of ns n) e ∙ node_of-here nodes n left i))
+
+pub call-of : (old new : At) → IsBeside old new → IsCall at_reach old new
+call-of old new b = record { meets = refl; beside = b; life = refl; count = (let none : 0 ≤ 0 = omega arith in none) }
+
+-- nothing changes
+pub idle-call : (a : At) → IsCall at_reach a a
+idle-call a = call-of a a (record { same = refl; world = sym (ap (λ ns. record a.world { nodes = ns }) (same_node a.world.nodes a.n)) })
 
 -- ---- the life stays
 
@@ -122,6 +140,13 @@ given-usable a life csn g = record {
   uncommitted = λ e h. g.uncommitted e (record { here = h; no_ticket = (g.opened e).no_ticket });
   free = λ e. subst (λ z. IsNoTicket a.world a.n z csn) (sym e) (g.opened e).no_ticket;
 }
+
+-- a receipt that is used is of a change that is taken, and of no ticket of the world
+pub committed-here : (a : At) (life : ℕ) (csn : Csn) → (life ≡ (reached a).life → IsCommittedAt a csn) → life ≡ (reached a).life → IsPendingTaken (reached a) csn
+committed-here a life csn g e = (g e).here
+
+pub committed-free_at : (a : At) (life : ℕ) (csn : Csn) → (life ≡ (reached a).life → IsCommittedAt a csn) → life ≡ (reached a).life → IsNoTicket a.world a.n life csn
+committed-free_at a life csn g e = subst (λ z. IsNoTicket a.world a.n z csn) (sym e) (g e).no_ticket
 
 abbrev pub IsCalm : Result Receipt (NodeTicket × CommitFault) → Type 0
 IsCalm result = MatchResult result (λ _. Unit {0}) (λ (e : NodeTicket × CommitFault). e.1 ≢ commit.KeeperFault)

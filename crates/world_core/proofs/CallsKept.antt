@@ -26,12 +26,14 @@ use Rattle.node_core.specs.Steps.{judge_view, verdict_at, after_begin, Stale, Co
 use Rattle.node_core.specs.Calls.{Begins, Commits, CommitsUnder, Acquires, Applies, IsPending, IsPendingTaken}
 use Rattle.node_core.proofs.OpenTickets.{ended-stale}
 use Rattle.node_core.proofs.Verdicts.{open-from}
-use Rattle.world_core.specs.World.{World, Call, CallBegin, CallCommit, CallEnd, CallAcquire, CallRelease, CallApply, called, is_node, node_of, with_node, node_in, put}
+use Rattle.world_core.specs.declared.event.Event.TheVariants.{Clock}
+use Rattle.world_core.specs.World.{World, Happens, Call, CallBegin, CallCommit, CallEnd, CallAcquire, CallRelease, CallApply, called, is_node, node_of, with_node, node_in, put}
 use Rattle.world_core.specs.Laws.{IsNode, IsNoTicket, MayCall, IsFitting}
 use Rattle.world_core.specs.Taken.{IsKept}
 use Rattle.world_core.proofs.Honest.{length-with_node, node_of-here}
 use Rattle.world_core.proofs.Outcomes.{same_node}
 use Rattle.world_core.proofs.Failures.{fault-says}
+use Rattle.world_core.proofs.Runs.{came-on}
 use Rattle.world_core.proofs.TakenLaws.{called-kept}
 
 -- the world, where its clock shows this time
@@ -41,6 +43,7 @@ at_time w now = record w { clock = now }
 -- nothing that is kept looks at the clock
 time-kept : (w : World) (now : ℕ) → IsKept w → IsKept (at_time w now)
 time-kept w now k = record {
+  came = came-on judge_view w (Happens (Clock now)) k.came tt;
   lawful = record { sound = k.lawful.sound; tickets = k.lawful.tickets; offered = k.lawful.offered };
   taken = k.taken;
 }
@@ -51,7 +54,7 @@ Leaves w n now call v = (v ≡ record (called judge_view (at_time w now) n call)
 
 pub leaves-kept : (w : World) (n now : ℕ) (call : Call) (v : World) → IsKept w → IsNode w.nodes n → MayCall (at_time w now) n call → Leaves w n now call v → IsKept v
 leaves-kept w n now call v k i m (inl e) =
-    subst (λ x. IsKept x) (sym e) (time-kept (called judge_view (at_time w now) n call) w.clock (called-kept judge_view (at_time w now) n call (time-kept w now k) (i, m)))
+    subst (λ x. IsKept x) (sym e) (time-kept (called judge_view (at_time w now) n call) w.clock (called-kept (at_time w now) n call (time-kept w now k) (i, m)))
 leaves-kept w n now call v k i m (inr e) = subst (λ x. IsKept x) (sym e) k
 
 -- the node that is put
@@ -160,15 +163,7 @@ pub apply-kept : (w v : World) (n from : ℕ) (u : Update) (now : ℕ) (result :
 apply-kept w v n from u now result left k i f s p =
     leaves-kept w n now (CallApply from u) v k i f (apply-leaves_world w v n from u now result left s p)
 
--- ---- the node stays one of the world
-
-pub node-stays : (w v : World) (n : ℕ) (left : Node) → is_node w n ≡ true → v ≡ put w n left → is_node v n ≡ true
-node-stays w v n left i e = subst (λ (x : World). is_node x n ≡ true) (sym e) (ap (λ z. nat_lt 0 n && nat_le n z) (length-with_node w.nodes n left) ∙ i)
-
 -- ---- a node that was put
 
 pub put-there : (w : World) (new : List Node) (n : ℕ) (left : Node) → IsNode w.nodes n → new ≡ with_node w.nodes n left → node_of new n ≡ left
 put-there w new n left i e = ap (λ ns. node_of ns n) e ∙ node_of-here w.nodes n left i
-
-pub put-back : (w : World) (new : List Node) (n : ℕ) (left : Node) → IsNode w.nodes n → new ≡ with_node w.nodes n left → record w { nodes = new } ≡ put w n (node_of new n)
-put-back w new n left i e = ap (λ ns. record w { nodes = ns }) e ∙ ap (λ m. put w n m) (sym (put-there w new n left i e))

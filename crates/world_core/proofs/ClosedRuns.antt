@@ -9,10 +9,8 @@ use Rattle.repl_data.proofs.Arrival.{closed_of_arrival}
 use Rattle.ldap_types.specs.declared.request.Request.{Request}
 use Rattle.ldap_types.specs.declared.reply.Identity.{Identity}
 use Rattle.vector_core.specs.declared.answers.AcquireFault.{AcquireFault}
-use Rattle.node_core.specs.declared.fault.BeginFault.{BeginFault}
-use Rattle.node_core.specs.declared.fault.BeginFault.TheVariants as begin
 use Rattle.node_core.specs.Node.{Node}
-use Rattle.node_core.specs.Steps.{Judge, verdict_at, begin_answer, acquire_fault, offer}
+use Rattle.node_core.specs.Steps.{NoTicket, Full, Exhausted, Judge, verdict_at, begin_answer, acquire_fault, offer}
 use Rattle.node_core.specs.Sound.{IsOpen}
 use Rattle.node_core.proofs.ClosedSteps.{commit_closed, apply_closed, begin-taken, ended-taken, acquire-taken, released-taken}
 use Rattle.world_core.specs.declared.event.Event.{Event}
@@ -58,11 +56,10 @@ called-arrivals judge sj w r (CallAcquire suffix from vector) i n m a = arrivals
 called-arrivals judge sj w r (CallRelease from) i n m a = release_at-arrivals w r from n a
 called-arrivals judge sj w r (CallApply from u) i n m a = apply_at-arrivals w r from u i n m a
 
-started-arrivals : (w : World) (k n : ℕ) (request : Request) (bound : Identity) (x : Result Csn BeginFault) → IsNode w.nodes n → AreArrivals w.nodes → AreArrivals (started w k n request bound x).world.nodes
+started-arrivals : (w : World) (k n : ℕ) (request : Request) (bound : Identity) (x : Result Csn NoTicket) → IsNode w.nodes n → AreArrivals w.nodes → AreArrivals (started w k n request bound x).world.nodes
 started-arrivals w k n request bound (Ok csn) j a = arrivals_same w.nodes n _ j a (begin-taken (node_in w n) (begin_answer (node_in w n) w.clock))
-started-arrivals w k n request bound (Err begin.Full) j a = a
-started-arrivals w k n request bound (Err begin.NoMemory) j a = a
-started-arrivals w k n request bound (Err (begin.Exhausted last)) j a = a
+started-arrivals w k n request bound (Err Full) j a = a
+started-arrivals w k n request bound (Err (Exhausted last)) j a = a
 
 commit_ticket-arrivals : (judge : Judge) → IsSoundJudge judge → (w : World) (k : ℕ) (o : Option Ticket) → ticket_in w k ≡ o → IfSome o (λ (t : Ticket). t.committed ≡ false) → IsReady w → AreTicketsSound w.nodes w.tickets → AreArrivals w.nodes → AreArrivals (commit_ticket judge w o).world.nodes
 commit_ticket-arrivals judge sj w k None e m i s a = a

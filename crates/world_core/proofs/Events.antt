@@ -10,10 +10,8 @@ use Rattle.ldap_types.specs.declared.reply.Identity.{Identity}
 use Rattle.ldap_rules.specs.Verdict.{Verdict}
 use Rattle.vector_core.specs.declared.answers.AcquireFault.{AcquireFault}
 use Rattle.vector_core.proofs.Lists.{map-Contains}
-use Rattle.node_core.specs.declared.fault.BeginFault.{BeginFault}
-use Rattle.node_core.specs.declared.fault.BeginFault.TheVariants as begin
 use Rattle.node_core.specs.Node.{vector_of}
-use Rattle.node_core.specs.Steps.{Judge, begin_answer, offer, acquire_fault}
+use Rattle.node_core.specs.Steps.{NoTicket, Full, Exhausted, Judge, begin_answer, offer, acquire_fault}
 use Rattle.node_core.specs.Sound.{IsOpen}
 use Rattle.node_core.proofs.Draws.{None-Some}
 use Rattle.node_core.proofs.Alone.{begin-alone, ended-alone, commit-alone, acquire-alone, released-alone}
@@ -83,11 +81,10 @@ called-advances judge w r (CallApply from u) i n m = apply_at-advances w r from 
 
 -- ---- events
 
-started-advances : (w : World) (k n : ℕ) (request : Request) (bound : Identity) (a : Result Csn BeginFault) → IsReady w → IsNode w.nodes n → Advances (Unit {0}) w (started w k n request bound a).world
+started-advances : (w : World) (k n : ℕ) (request : Request) (bound : Identity) (a : Result Csn NoTicket) → IsReady w → IsNode w.nodes n → Advances (Unit {0}) w (started w k n request bound a).world
 started-advances w k n request bound (Ok csn) i j = begin_at-advances w n i j
-started-advances w k n request bound (Err begin.Full) i j = stands w i
-started-advances w k n request bound (Err begin.NoMemory) i j = stands w i
-started-advances w k n request bound (Err (begin.Exhausted last)) i j = stands w i
+started-advances w k n request bound (Err Full) i j = stands w i
+started-advances w k n request bound (Err (Exhausted last)) i j = stands w i
 
 pub ticket-Contains : (w : World) (k : ℕ) (t : Ticket) → ticket_in w k ≡ Some t → Contains w.tickets t
 ticket-Contains w k t e = (find-Contains (λ (s : Ticket). s.number == k) w.tickets t e).0

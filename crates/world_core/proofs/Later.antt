@@ -7,7 +7,6 @@ use Rattle.repl_data.specs.declared.change.Suffix.{Suffix}
 use Rattle.repl_data.specs.declared.change.Update.{Update}
 use Rattle.repl_data.specs.Order.{number_of}
 use Rattle.repl_data.specs.Closed.{needed, is_known}
-use Rattle.repl_data.proofs.Arrival.{closed_of_arrival}
 use Rattle.vector_core.specs.Vector.{entry_of}
 use Rattle.vector_core.proofs.Greatests.{later_of-cases}
 use Rattle.change_log.specs.Log.{prev_in}
@@ -21,16 +20,16 @@ use Rattle.node_core.proofs.Known.{known-adds, suffix_known, adds-known}
 use Rattle.node_core.proofs.LeastOffers.{offer-least}
 use Rattle.node_core.proofs.Vectors.{entry_of-vector_of, entry_of-raised, entry_of-here, entry_of-past}
 use Rattle.world_core.specs.World.{World, Deed, after, after_all, node_of, node_in, new_world, updates_of}
-use Rattle.world_core.specs.Laws.{IsNode, AreSound, AreHonest, AllGoOn, IsHonestRun, IsRun, IsSoundJudge}
-use Rattle.world_core.specs.Sessions.{IsFollowed, law_of_sessions, law_of_progress, law_of_cursors}
+use Rattle.world_core.specs.Laws.{IsNode, AreSound, AreHonest, IsLawful, IsHonest, AllGoOn, IsHonestRun, IsRun, IsSoundJudge, Leads}
+use Rattle.world_core.specs.Sessions.{IsFollowed, OffersWelcome, OffersTaken, law_of_sessions, law_of_progress, law_of_cursors}
 use Rattle.world_core.proofs.Pairs.{front_low}
 use Rattle.world_core.proofs.Advances.{taker_is_node}
 use Rattle.world_core.proofs.Holding.{AreClosed, held_at_origin, held_by, sound_there}
 use Rattle.world_core.proofs.Following.{IsServed, no_gap, need_known}
 use Rattle.world_core.proofs.Welcome.{IsComplete, welcome, fine}
 use Rattle.world_core.proofs.Forms.{formed}
-use Rattle.world_core.proofs.Runs.{lawful_all, new_lawful, prefixes_hold, all_go_on, after_all-append, IsRun-append}
-use Rattle.world_core.proofs.ClosedRuns.{arrivals_all, new_arrivals}
+use Rattle.world_core.proofs.Runs.{lawful_all, honest_all, new_lawful, prefixes_hold, all_go_on, after_all-append, IsRun-append}
+use Rattle.world_core.proofs.ClosedRuns.{closed_holds}
 
 -- each entry rises where a node goes on
 rises : (m new : Node) (o : ℕ) → IsSoundNode new → GoesOn m new → number_of (front m o) ≤ number_of (front new o)
@@ -107,6 +106,43 @@ IsHonestRun-before : (judge : Judge) (w : World) (ds es : List Deed) → IsHones
 IsHonestRun-before judge w [] es r = tt
 IsHonestRun-before judge w (d ∷ ds) es r = (r.0, IsHonestRun-before judge (after judge w d) ds es r.1)
 
+-- ---- from one world to a later one
+
+module _ (w v : World) (l : IsLawful w) (h : IsHonest w) (cl : AreClosed w.nodes) (lv : IsLawful v) (hv : IsHonest v) (g : AllGoOn w.nodes v.nodes) where
+  complete_from : (x y : ℕ) → IsNode w.nodes x → IsNode w.nodes y → (cursor : List Csn) → IsFollowed (node_in w y) cursor →
+      (u : Update) → offer (node_in w x) cursor ≡ Some u → IsComplete (node_in v y) u
+  complete_from x y i j cursor follows u e =
+      let o = offer-least (node_in w x) cursor u (l.sound.sound x i) e in
+      subst (λ z. IsComplete (node_in v y) z) o.is
+      (complete_later w.nodes v.nodes (updates_of w) (updates_of v) l.sound h cl lv.sound hv g x y i j cursor follows o.change
+      (record {
+        has = o.has;
+        covered = o.covered;
+        served = λ d m cov b less. (let k : number_of o.change.csn ≤ number_of d.csn = o.least d m cov b in absurd (omega arith));
+      }))
+
+-- a world that a lawful one leads to by honest deeds
+led-lawful : (judge : Judge) (w v : World) → IsLawful w → Leads judge w v → IsLawful v
+led-lawful judge w v l d = subst (λ x. IsLawful x) d.ends (lawful_all judge w d.deeds d.run l)
+
+led-honest : (judge : Judge) (w v : World) → IsLawful w → IsHonest w → Leads judge w v → IsHonest v
+led-honest judge w v l h d = subst (λ x. IsHonest x) d.ends (honest_all judge w d.deeds d.run d.honest l h)
+
+led-on : (judge : Judge) (w v : World) → IsLawful w → Leads judge w v → AllGoOn w.nodes v.nodes
+led-on judge w v l d = subst (λ (x : World). AllGoOn w.nodes x.nodes) d.ends (all_go_on judge w d.deeds d.run l)
+
+complete_led : (judge : Judge) (w v : World) → IsLawful w → AreClosed w.nodes → IsHonest w → Leads judge w v → (x y : ℕ) → IsNode w.nodes x → IsNode w.nodes y →
+    (cursor : List Csn) → IsFollowed (node_in w y) cursor → (u : Update) → offer (node_in w x) cursor ≡ Some u → IsComplete (node_in v y) u
+complete_led judge w v l cl h d = complete_from w v l h cl (led-lawful judge w v l d) (led-honest judge w v l h d) (led-on judge w v l d)
+
+pub offers_welcome : (judge : Judge) (w : World) → IsLawful w → AreClosed w.nodes → IsHonest w → OffersWelcome judge w
+offers_welcome judge w l cl h v d x y i j apart cursor follows u e from now fails =
+    welcome (node_in v y) u from now fails (complete_led judge w v l cl h d x y i j cursor follows u e)
+
+pub offers_taken : (judge : Judge) (w : World) → IsLawful w → AreClosed w.nodes → IsHonest w → OffersTaken judge w
+offers_taken judge w l cl h v d x y i j apart cursor follows u e from now held in_time =
+    fine (node_in v y) u from now (complete_led judge w v l cl h d x y i j cursor follows u e) held in_time
+
 -- ---- in runs
 
 complete : (judge : Judge) → IsSoundJudge judge → (suffix : Suffix) → (n : ℕ) → n < 65535 → (before rest : List Deed) →
@@ -116,25 +152,15 @@ complete : (judge : Judge) → IsSoundJudge judge → (suffix : Suffix) → (n :
     (u : Update) → offer (node_in (after_all judge (new_world suffix n) before) x) cursor ≡ Some u →
     IsComplete (node_in (after_all judge (new_world suffix n) (before ++ rest)) y) u
 complete judge sj suffix n few before rest run honest x y i j cursor follows u e =
-    let start = new_world suffix n in
     let w = after_all judge (new_world suffix n) before in
     let v = after_all judge (new_world suffix n) (before ++ rest) in
     let q = IsRun-append judge (new_world suffix n) before rest run in
     let l = lawful_all judge (new_world suffix n) before q.0 (new_lawful suffix n few) in
     let h = prefixes_hold judge suffix n few before q.0 (IsHonestRun-before judge (new_world suffix n) before rest honest) in
-    let cl : AreClosed (after_all judge (new_world suffix n) before).nodes =
-    λ k m. closed_of_arrival (node_in (after_all judge (new_world suffix n) before) k).taken (arrivals_all judge sj (new_world suffix n) before q.0 (new_lawful suffix n few) (new_arrivals suffix n) k m) in
     let lv = lawful_all judge (new_world suffix n) (before ++ rest) run (new_lawful suffix n few) in
     let hv = prefixes_hold judge suffix n few (before ++ rest) run honest in
-    let g = subst (λ (z : World). AllGoOn (after_all judge (new_world suffix n) before).nodes z.nodes) (sym (after_all-append judge (new_world suffix n) before rest)) (all_go_on judge (after_all judge (new_world suffix n) before) rest q.1 l) in
-    let o = offer-least (node_in w x) cursor u (l.sound.sound x i) e in
-    subst (λ z. IsComplete (node_in v y) z) o.is
-    (complete_later w.nodes v.nodes (updates_of w) (updates_of v) l.sound h cl lv.sound hv g x y i j cursor follows o.change
-    (record {
-      has = o.has;
-      covered = o.covered;
-      served = λ d m cov b less. (let k : number_of o.change.csn ≤ number_of d.csn = o.least d m cov b in absurd (omega arith));
-    }))
+    let g = subst (λ (z : World). AllGoOn w.nodes z.nodes) (sym (after_all-append judge (new_world suffix n) before rest)) (all_go_on judge w rest q.1 l) in
+    complete_from w v l h (closed_holds judge sj suffix n few before q.0) lv hv g x y i j cursor follows u e
 
 pub sessions_hold : law_of_sessions
 sessions_hold judge sj suffix n few before rest run honest x y i j apart cursor follows u e from now fails =

@@ -22,8 +22,8 @@ pub mod Following
 pub mod Welcome
 pub mod Later
 pub mod Writing
-pub mod Judging
 pub mod WriteSteps
 pub mod CallsKept
 pub mod AtTickets
 pub mod AtCalls
+pub mod OneWorld

@@ -10,12 +10,13 @@ use Rattle.node_core.specs.declared.ticket.Ticket.{Ticket as NodeTicket}
 use Rattle.node_core.specs.Calls.{Begins}
 use Rattle.std.proofs.lemmas.List.{set-get_or, get_or_default}
 use Rattle.node_core.specs.Node.{Node, new_node}
-use Rattle.node_core.specs.Steps.{judge_view, begin_answer, after_begin, CommitAnswer, Stale, Refused, CommitExhausted, KeeperFailed, Committed, ended}
+use Rattle.node_core.specs.Steps.{NoTicket, Full, Exhausted, judge_view, begin_answer, after_begin, CommitAnswer, Stale, Refused, CommitExhausted, KeeperFailed, Committed, ended}
 use Rattle.std.specs.List.{insert, remove}
 use Rattle.world_core.specs.declared.event.Happened.{Happened}
 use Rattle.world_core.specs.declared.event.Happened.TheVariants as what
 use Rattle.world_core.specs.World.{World, Ticket, node_of, with_node, node_in, no_suffix, new_ticket, with_ticket, started, ticket_in, ticket_after, commit_happened, commit_ticket, end_ticket, without_ticket}
 use Rattle.world_core.specs.Laws.{AreRising, IsNode}
+use Rattle.world_core.specs.Held.{no_ticket_of}
 use Rattle.world_core.proofs.Honest.{node_of-here}
 use Rattle.world_core.specs.Commits.{CommitsHeld, held_answer}
 use Rattle.world_core.proofs.Advances.{find-Contains}
@@ -36,7 +37,7 @@ start-began w k n request bound csn nodes left tickets e l p q =
     (ap (λ ns. (ns, with_ticket (new_ticket w k n request bound csn) w.tickets)) (ap (λ a. with_node w.nodes n (after_begin (node_in w n) a)) e ∙ ap (λ m. with_node w.nodes n m) (sym l) ∙ sym p)
     ∙ ap (λ ts. (nodes, ts)) (sym q))
 
-pub start-failed : (w : World) (k n : ℕ) (request : Request) (bound : Identity) (fault : BeginFault) (happened : Happened) (nodes : List Node) (left : Node) → begin_answer (node_in w n) w.clock ≡ Err fault → left ≡ node_in w n → nodes ≡ with_node w.nodes n left → started w k n request bound (Err fault) ≡ record { world = w; happened = happened } → started w k n request bound (begin_answer (node_in w n) w.clock) ≡ record { world = record w { nodes = nodes }; happened = happened }
+pub start-failed : (w : World) (k n : ℕ) (request : Request) (bound : Identity) (fault : NoTicket) (happened : Happened) (nodes : List Node) (left : Node) → begin_answer (node_in w n) w.clock ≡ Err fault → left ≡ node_in w n → nodes ≡ with_node w.nodes n left → started w k n request bound (Err fault) ≡ record { world = w; happened = happened } → started w k n request bound (begin_answer (node_in w n) w.clock) ≡ record { world = record w { nodes = nodes }; happened = happened }
 start-failed w k n request bound fault happened nodes left e l p h =
     ap (λ a. started w k n request bound a) e ∙ h
     ∙ ap (λ ns. record { world = record w { nodes = ns }; happened = happened }) (sym (p ∙ ap (λ m. with_node w.nodes n m) l ∙ same_node w.nodes n))
@@ -45,10 +46,10 @@ start-failed w k n request bound fault happened nodes left e l p h =
 abbrev pub IsOther : BeginFault → Type 0
 IsOther fault = ◌≢◌ {A = Result NodeTicket BeginFault} (Err fault) (Err begin.NoMemory)
 
-pub begins-failed : (met : Node) (now : ℕ) (fault : BeginFault) (left : Node) → Begins met now (Err fault) left → IsOther fault → (begin_answer met now ≡ Err fault) × (left ≡ met)
+pub begins-failed : (met : Node) (now : ℕ) (fault : BeginFault) (left : Node) → Begins met now (Err fault) left → IsOther fault → (why : NoTicket) × (no_ticket_of fault ≡ Some why) × (begin_answer met now ≡ Err why) × (left ≡ met)
 begins-failed met now begin.NoMemory left b m = absurd (m refl)
-begins-failed met now begin.Full left b m = b
-begins-failed met now (begin.Exhausted last) left b m = b
+begins-failed met now begin.Full left b m = (Full, refl, b.0, b.1)
+begins-failed met now (begin.Exhausted last) left b m = (Exhausted last, refl, b.0, b.1)
 
 -- ---- results
 

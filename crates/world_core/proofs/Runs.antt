@@ -16,8 +16,9 @@ use Rattle.node_core.proofs.Orders.{number_of-zero, number_of-above_0, not_lt_nu
 use Rattle.node_core.proofs.Fronts.{front-zero, front-among, front_own-above, front_own-among, front_other-above, is_free-below}
 use Rattle.node_core.proofs.Vectors.{entry_of-vector_of}
 use Rattle.node_core.proofs.Moves.{goes_on-refl, goes_on-then}
+use Rattle.node_core.proofs.OwnEntries.{own_entry}
 use Rattle.world_core.specs.World.{World, Deed, after, after_all, no_suffix, node_of, node_in, new_world, nodes_from, updates_of}
-use Rattle.world_core.specs.Laws.{IsNode, AreSound, AreHonest, IsLawful, IsHonest, IsRun, IsHonestRun, AllGoOn, IsOwnEntry, none_free, greatest_free, OwnEntriesExact, AllAgree, law_of_draws, law_of_own_entries, law_of_prefixes, law_of_agreement}
+use Rattle.world_core.specs.Laws.{IsNode, AreSound, AreHonest, IsLawful, IsHonest, May, IsRun, IsHonestRun, HasRun, AllGoOn, IsOwnEntry, OwnEntriesExact, AllAgree, law_of_draws, law_of_own_entries, law_of_prefixes, law_of_agreement}
 use Rattle.world_core.proofs.Events.{after-advances}
 use Rattle.world_core.proofs.Kept.{ready, after-lawful, after-honest}
 
@@ -112,42 +113,6 @@ new_honest suffix n = record {
     front_of_none : (m : Node) (o : ℕ) → m.taken ≡ [] → front m o ≡ zero_csn
     front_of_none m o e = elim (front-among m o) [ inl f ↦ f | inr f ↦ absurd (Contains-nil (subst (λ z. Contains z f.0) e f.1)) ]
 
--- ---- the own entry
-
--- what is not free has a pending CSN at or below it
-not_free : (pending : List Csn) (c : Csn) → IsPlain c → ((p : Csn) → Contains pending p → IsPlain p) → is_free pending c ≡ false → (p : Csn) × Contains pending p × (number_of p ≤ number_of c)
-not_free [] c plain all e = absurd (true≢false e)
-not_free (p ∷ ps) c plain all e =
-    elim (and_cases (csn_lt c p) (is_free ps c) e) [
-      | inl f ↦ (p, Contains-here p ps, not_lt_number c p plain (all p (Contains-here p ps)) f)
-      | inr f ↦ (let r = not_free ps c plain (λ q h. all q (Contains-there p ps q h)) f in (r.0, Contains-there p ps r.0 r.1, r.2))
-    ]
-
--- an own change above the own entry is not free
-above_entry : (n : Node) (d : Change) → IsSoundNode n → Contains n.taken d → d.csn.rid ≡ n.rid → number_of (front n n.rid) < number_of d.csn → (p : Csn) × Contains n.pending p × (number_of p ≤ number_of d.csn)
-above_entry n d s h own up =
-    elim (cases_Bool (is_free n.pending d.csn)) [
-      | inl t ↦
-          (let l : number_of d.csn ≤ number_of (front n n.rid) = front_own-above n d s h own (λ p q. is_free-below n d.csn p s (s.taken_plain d h) t q) in
-          absurd (omega arith))
-      | inr f ↦ not_free n.pending d.csn (s.taken_plain d h) s.pending_plain f
-    ]
-
-pub own_entry : (n : Node) → IsSoundNode n → IsOwnEntry n (front n n.rid)
-own_entry n s =
-    elim (front_own-among n s) [
-      | inl e ↦
-          none_free (front-zero n n.rid e)
-          (λ c h own.
-          (let z : number_of (front n n.rid) ≡ 0 = front-zero n n.rid e in
-          let pos : 0 < number_of c.csn = number_of-above_0 c.csn (s.taken_named c h) in
-          above_entry n c s h own (omega arith)))
-      | inr f ↦
-          greatest_free f.0 f.1 f.2 f.3
-          (λ p h. subst (λ z. number_of z < number_of p) f.3 (f.4 p h))
-          (λ d h own up. above_entry n d s h own up)
-    ]
-
 -- ---- agreement
 
 -- with nothing pending, each change taken is at or below the vector
@@ -185,6 +150,21 @@ after_all-append judge w (d ∷ ds) es = after_all-append judge (after judge w d
 pub IsRun-append : (judge : Judge) (w : World) (ds es : List Deed) → IsRun judge w (ds ++ es) → IsRun judge w ds × IsRun judge (after_all judge w ds) es
 IsRun-append judge w [] es r = (tt, r)
 IsRun-append judge w (d ∷ ds) es r = (let q = IsRun-append judge (after judge w d) ds es r.1 in ((r.0, q.0), q.1))
+
+IsRun-join : (judge : Judge) (w : World) (ds es : List Deed) → IsRun judge w ds → IsRun judge (after_all judge w ds) es → IsRun judge w (ds ++ es)
+IsRun-join judge w [] es r q = q
+IsRun-join judge w (d ∷ ds) es r q = (r.0, IsRun-join judge (after judge w d) ds es r.1 q)
+
+-- one deed more
+pub came-on : (judge : Judge) (w : World) (d : Deed) → HasRun judge w → May w d → HasRun judge (after judge w d)
+came-on judge w d h m = record {
+  suffix = h.suffix;
+  count = h.count;
+  few = h.few;
+  deeds = h.deeds ++ d ∷ [];
+  run = IsRun-join judge (new_world h.suffix h.count) h.deeds (d ∷ []) h.run (subst (λ x. May x d) (sym h.ends) m, tt);
+  ends = after_all-append judge (new_world h.suffix h.count) h.deeds (d ∷ []) ∙ ap (λ x. after judge x d) h.ends;
+}
 
 pub draws_hold : law_of_draws
 draws_hold judge suffix n h before rest r =

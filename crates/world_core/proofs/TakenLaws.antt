@@ -16,11 +16,9 @@ use Rattle.vector_core.specs.declared.answers.AcquireFault.{AcquireFault}
 use Rattle.repl_data.specs.declared.change.Update.{Update}
 use Rattle.repl_data.specs.declared.change.Suffix.{Suffix}
 use Rattle.repl_data.specs.declared.items.NoMemory.{NoMemory}
-use Rattle.node_core.specs.declared.fault.BeginFault.{BeginFault}
-use Rattle.node_core.specs.declared.fault.BeginFault.TheVariants as begin
 use Rattle.node_core.specs.Node.{Node}
 use Rattle.ldap_rules.specs.Laws.{change_at}
-use Rattle.node_core.specs.Steps.{Judge, judge_view, begin_answer, offer, CommitAnswer, Stale, Refused, CommitExhausted, KeeperFailed, Committed, commit_answer, judged, with_csn, written, after_commit}
+use Rattle.node_core.specs.Steps.{NoTicket, Full, Exhausted, Judge, judge_view, begin_answer, offer, CommitAnswer, Stale, Refused, CommitExhausted, KeeperFailed, Committed, commit_answer, judged, with_csn, written, after_commit}
 use Rattle.world_core.specs.declared.event.Event.{Event}
 use Rattle.world_core.specs.declared.event.Event.TheVariants.{Clock, Start, Commit, Settle, Abort, Acquire, Release, Offer, Deliver, Vector, Dump}
 use Rattle.world_core.specs.declared.event.Happened.{Happened}
@@ -31,7 +29,7 @@ use Rattle.world_core.specs.Taken.{AreTaken, IsKept}
 use Rattle.world_core.proofs.Honest.{node_of-here}
 use Rattle.world_core.proofs.Events.{after-advances, if_cases, ticket-Contains}
 use Rattle.world_core.proofs.TicketLists.{kept_ticket, put_ticket}
-use Rattle.world_core.proofs.Runs.{new_lawful}
+use Rattle.world_core.proofs.Runs.{new_lawful, came-on}
 use Rattle.world_core.proofs.Kept.{ready, after-lawful, after-honest}
 
 -- ---- a committed answer is to a write, which is taken
@@ -82,10 +80,9 @@ taken_on w v on at each k t c m =
 same_joins : (w : World) (nodes : List Node) → Joins w (record w { nodes = nodes })
 same_joins w nodes t c = inl c
 
-started-joins : (w : World) (k n : ℕ) (request : Request) (bound : Identity) (a : Result Csn BeginFault) → AreRising w.tickets → Joins w (started w k n request bound a).world
-started-joins w k n request bound (Err begin.Full) r t c = inl c
-started-joins w k n request bound (Err begin.NoMemory) r t c = inl c
-started-joins w k n request bound (Err (begin.Exhausted last)) r t c = inl c
+started-joins : (w : World) (k n : ℕ) (request : Request) (bound : Identity) (a : Result Csn NoTicket) → AreRising w.tickets → Joins w (started w k n request bound a).world
+started-joins w k n request bound (Err Full) r t c = inl c
+started-joins w k n request bound (Err (Exhausted last)) r t c = inl c
 started-joins w k n request bound (Ok csn) r t c =
     elim (put_ticket (new_ticket w k n request bound csn) w.tickets t r c) [
       | inl e ↦ inr (λ m. absurd (true≢false (sym m ∙ sym (ap (λ (z : Ticket). z.committed) e))))
@@ -149,10 +146,13 @@ step-joins judge w (Deliver b u) k m = if_cases (λ (o : Outcome). Joins w o.wor
 step-joins judge w (Vector n) k m = if_cases (λ (o : Outcome). Joins w o.world) (is_node w n) _ _ (λ e t c. inl c) (λ f t c. inl c)
 step-joins judge w (Dump n) k m = if_cases (λ (o : Outcome). Joins w o.world) (is_node w n) _ _ (λ e t c. inl c) (λ f t c. inl c)
 
-pub step-kept : (judge : Judge) (w : World) (event : Event) → IsKept w → MayHappen w event → IsKept (step judge w event).world
-step-kept judge w event k m = record {
-  lawful = after-lawful judge w (Happens event) k.lawful m;
-  taken = taken_on w (step judge w event).world (after-advances judge w (Happens event) (ready w k.lawful) k.lawful.tickets m).on k.lawful.tickets.at_node (step-joins judge w event k m) k.taken;
+pub step-kept : (w : World) (event : Event) → IsKept w → MayHappen w event → IsKept (step judge_view w event).world
+step-kept w event k m = record {
+  came = came-on judge_view w (Happens event) k.came m;
+  lawful = after-lawful judge_view w (Happens event) k.lawful m;
+  taken =
+      taken_on w (step judge_view w event).world (after-advances judge_view w (Happens event) (ready w k.lawful) k.lawful.tickets m).on k.lawful.tickets.at_node
+      (step-joins judge_view w event k m) k.taken;
 }
 
 pub step-honest : (judge : Judge) (w : World) (event : Event) → IsKept w → MayHappen w event → IsHonest w → IsHonest (step judge w event).world
@@ -168,15 +168,15 @@ end-kept w k happened l = go (ticket_in w k) refl
         elim (cases_Bool t.committed) [
           | inl y ↦
               subst (λ o. IsKept (end_ticket w (λ s. what.Settled) o).world) e
-              (step-kept judge_view w (Settle k) l (subst (λ o. IfSome o (λ (s : Ticket). s.committed ≡ true)) (sym e) y))
+              (step-kept w (Settle k) l (subst (λ o. IfSome o (λ (s : Ticket). s.committed ≡ true)) (sym e) y))
           | inr f ↦
               subst (λ o. IsKept (end_ticket w (λ s. what.Aborted s.trouble) o).world) e
-              (step-kept judge_view w (Abort k) l (subst (λ o. IfSome o (λ (s : Ticket). s.committed ≡ false)) (sym e) f))
+              (step-kept w (Abort k) l (subst (λ o. IfSome o (λ (s : Ticket). s.committed ≡ false)) (sym e) f))
         ]
 
 -- a world after an event, or as before where memory was wanting
 pub kept-after : (w v : World) (event : Event) (r : Result Happened NoMemory) → IsKept w → MayHappen w event → IfOk r (λ h. step judge_view w event ≡ record { world = v; happened = h }) → OnErr r (v ≡ w) → IsKept v
-kept-after w v event (Ok h) k m e f = subst (λ x. IsKept x) (ap (λ (o : Outcome). o.world) e) (step-kept judge_view w event k m)
+kept-after w v event (Ok h) k m e f = subst (λ x. IsKept x) (ap (λ (o : Outcome). o.world) e) (step-kept w event k m)
 kept-after w v event (Err s) k m e f = subst (λ x. IsKept x) (sym f) k
 
 pub honest-after : (w v : World) (event : Event) (r : Result Happened NoMemory) → IsKept w → MayHappen w event → IfOk r (λ h. step judge_view w event ≡ record { world = v; happened = h }) → OnErr r (v ≡ w) → IsHonest w → IsHonest v
@@ -184,31 +184,21 @@ honest-after w v event (Ok h) k m e f q = subst (λ x. IsHonest x) (ap (λ (o : 
 honest-after w v event (Err s) k m e f q = subst (λ x. IsHonest x) (sym f) q
 
 pub new-kept : (suffix : Suffix) (n : ℕ) → n ≤ 8 → IsKept (new_world suffix n)
-new-kept suffix n l = record { lawful = new_lawful suffix n (omega arith); taken = λ t c. absurd (Contains-nil c) }
+new-kept suffix n l = record { came = record { suffix = suffix; count = n; few = omega arith; deeds = []; run = tt; ends = refl }; lawful = new_lawful suffix n (omega arith); taken = λ t c. absurd (Contains-nil c) }
 
 -- ---- calls, and runs
 
-pub called-kept : (judge : Judge) (w : World) (r : ℕ) (call : Call) → IsKept w → May w (Calls r call) → IsKept (called judge w r call)
-called-kept judge w r call k m = record {
-  lawful = after-lawful judge w (Calls r call) k.lawful m;
-  taken = taken_on w (called judge w r call) (after-advances judge w (Calls r call) (ready w k.lawful) k.lawful.tickets m).on k.lawful.tickets.at_node (called-joins call) k.taken;
+pub called-kept : (w : World) (r : ℕ) (call : Call) → IsKept w → May w (Calls r call) → IsKept (called judge_view w r call)
+called-kept w r call k m = record {
+  came = came-on judge_view w (Calls r call) k.came m;
+  lawful = after-lawful judge_view w (Calls r call) k.lawful m;
+  taken = taken_on w (called judge_view w r call) (after-advances judge_view w (Calls r call) (ready w k.lawful) k.lawful.tickets m).on k.lawful.tickets.at_node (called-joins call) k.taken;
 }
   where
-    called-joins : (c : Call) → Joins w (called judge w r c)
+    called-joins : (c : Call) → Joins w (called judge_view w r c)
     called-joins CallBegin = λ t d. inl d
     called-joins (CallCommit life csn request bound) = λ t d. inl d
     called-joins (CallEnd life csn) = λ t d. inl d
     called-joins (CallAcquire suffix from vector) = λ t d. inl d
     called-joins (CallRelease from) = λ t d. inl d
     called-joins (CallApply from update) = λ t d. inl d
-
-deed-kept : (judge : Judge) (w : World) (d : Deed) → IsKept w → May w d → IsKept (after judge w d)
-deed-kept judge w (Happens event) k m = step-kept judge w event k m
-deed-kept judge w (Calls r call) k m = called-kept judge w r call k m
-
-run-kept : (judge : Judge) (w : World) (deeds : List Deed) → IsKept w → IsRun judge w deeds → IsKept (after_all judge w deeds)
-run-kept judge w [] k r = k
-run-kept judge w (d ∷ ds) k r = run-kept judge (after judge w d) ds (deed-kept judge w d k r.0) r.1
-
-pub leads-kept : (judge : Judge) (w v : World) → Leads judge w v → IsKept w → IsKept v
-leads-kept judge w v l k = subst (λ x. IsKept x) l.ends (run-kept judge w l.deeds k l.run)

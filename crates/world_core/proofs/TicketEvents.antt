@@ -10,10 +10,8 @@ use Rattle.ldap_types.specs.declared.request.Request.{Request}
 use Rattle.ldap_types.specs.declared.reply.Identity.{Identity}
 use Rattle.ldap_rules.specs.Verdict.{Verdict}
 use Rattle.vector_core.specs.declared.answers.AcquireFault.{AcquireFault}
-use Rattle.node_core.specs.declared.fault.BeginFault.{BeginFault}
-use Rattle.node_core.specs.declared.fault.BeginFault.TheVariants as begin
 use Rattle.node_core.specs.Node.{Node}
-use Rattle.node_core.specs.Steps.{Judge, csn_at, begin_answer, after_begin, CommitAnswer, Stale, Refused, CommitExhausted, KeeperFailed, Committed, after_commit, offer}
+use Rattle.node_core.specs.Steps.{NoTicket, Full, Exhausted, Judge, csn_at, begin_answer, after_begin, CommitAnswer, Stale, Refused, CommitExhausted, KeeperFailed, Committed, after_commit, offer}
 use Rattle.node_core.specs.Sound.{IsOpen}
 use Rattle.node_core.proofs.Draws.{draw-above, reached_below, begun-drawn}
 use Rattle.node_core.proofs.NodeSteps.{drawn-above}
@@ -32,10 +30,9 @@ use Rattle.world_core.proofs.Tickets.{tickets_with, tickets_fewer, tickets_more,
 
 -- ---- start
 
-pub started-tickets : (w : World) (k n : ℕ) (request : Request) (bound : Identity) (a : Result Csn BeginFault) → begin_answer (node_in w n) w.clock ≡ a → IsReady w → IsNode w.nodes n → IsWrite request bound → AreTicketsSound w.nodes w.tickets → AreTicketsSound (started w k n request bound a).world.nodes (started w k n request bound a).world.tickets
-started-tickets w k n request bound (Err begin.Full) e i j write s = s
-started-tickets w k n request bound (Err begin.NoMemory) e i j write s = s
-started-tickets w k n request bound (Err (begin.Exhausted last)) e i j write s = s
+pub started-tickets : (w : World) (k n : ℕ) (request : Request) (bound : Identity) (a : Result Csn NoTicket) → begin_answer (node_in w n) w.clock ≡ a → IsReady w → IsNode w.nodes n → IsWrite request bound → AreTicketsSound w.nodes w.tickets → AreTicketsSound (started w k n request bound a).world.nodes (started w k n request bound a).world.tickets
+started-tickets w k n request bound (Err Full) e i j write s = s
+started-tickets w k n request bound (Err (Exhausted last)) e i j write s = s
 started-tickets w k n request bound (Ok csn) e i j write s =
     let t = new_ticket w k n request bound csn in
     let nodes = with_node w.nodes n (after_begin (node_in w n) (begin_answer (node_in w n) w.clock)) in

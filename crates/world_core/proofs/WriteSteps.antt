@@ -25,7 +25,7 @@ use Rattle.world_core.specs.Taken.{IsKept}
 use Rattle.world_core.proofs.Honest.{with-IsNode}
 use Rattle.world_core.proofs.Outcomes.{same_node}
 use Rattle.world_core.proofs.Failures.{FaultSays}
-use Rattle.world_core.proofs.TakenLaws.{taken-new, called-kept, leads-kept}
+use Rattle.world_core.proofs.TakenLaws.{taken-new}
 use Rattle.world_core.proofs.Writing.{none, write-leads}
 
 -- ---- commit and settle

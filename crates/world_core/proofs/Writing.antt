@@ -7,10 +7,8 @@ use Rattle.repl_data.specs.Order.{number_of}
 use Rattle.ldap_types.specs.declared.request.Request.{Request}
 use Rattle.ldap_types.specs.declared.reply.Identity.{Identity}
 use Rattle.ldap_rules.specs.Verdict.{Verdict}
-use Rattle.node_core.specs.declared.fault.BeginFault.{BeginFault}
-use Rattle.node_core.specs.declared.fault.BeginFault.TheVariants as begin
 use Rattle.node_core.specs.Node.{Node}
-use Rattle.node_core.specs.Steps.{Judge, verdict_at, csn_at, begin_answer, after_begin, CommitAnswer, Stale, Refused, CommitExhausted, KeeperFailed, Committed, after_commit}
+use Rattle.node_core.specs.Steps.{NoTicket, Full, Exhausted, Judge, verdict_at, csn_at, begin_answer, after_begin, CommitAnswer, Stale, Refused, CommitExhausted, KeeperFailed, Committed, after_commit}
 use Rattle.node_core.specs.Sound.{IsSoundNode, IsOpen}
 use Rattle.node_core.proofs.Draws.{draw-above, reached_below, begun-drawn}
 use Rattle.node_core.proofs.NodeSteps.{drawn-above}
@@ -125,11 +123,10 @@ module _ (judge : Judge) (w : World) (r : ℕ) (request : Request) (bound : Iden
 pub write-leads : (judge : Judge) (w : World) (r : ℕ) (request : Request) (bound : Identity) → IsLawful w → IsNode w.nodes r → Leads judge w (write_in judge w r request bound).0
 write-leads judge w r request bound l i = by_begin (begin_answer (node_in w r) w.clock) refl
   where
-    by_begin : (a : Result Csn BeginFault) → begin_answer (node_in w r) w.clock ≡ a → Leads judge w (written_from judge w r request bound a).0
+    by_begin : (a : Result Csn NoTicket) → begin_answer (node_in w r) w.clock ≡ a → Leads judge w (written_from judge w r request bound a).0
     by_begin (Ok csn) e = begun-leads judge w r request bound csn l i e
-    by_begin (Err (begin.Exhausted last)) e = leads-refl judge w
-    by_begin (Err begin.Full) e = leads-refl judge w
-    by_begin (Err begin.NoMemory) e = leads-refl judge w
+    by_begin (Err (Exhausted last)) e = leads-refl judge w
+    by_begin (Err Full) e = leads-refl judge w
 
 pub writes_lead : law_of_writes
 writes_lead judge w r request bound l i = write-leads judge w r request bound l i

@@ -2,7 +2,7 @@
 use Rattle.std.specs.Prelude.{◌≡◌, ℕ}
 use Rattle.repl_data.specs.declared.csn.Csn.{Csn}
 use Rattle.node_core.specs.Node.{Node}
-use Rattle.node_core.specs.Calls.{IsPending, IsPendingTaken}
+use Rattle.node_core.specs.Calls.{Reach, IsPending, IsPendingTaken}
 use Rattle.world_core.specs.World.{World, node_in, put}
 use Rattle.world_core.specs.Laws.{IsNoTicket}
 
@@ -17,6 +17,10 @@ reached a = node_in a.world a.n
 pub record IsBeside (old new : At) : Type 0 where
   pub same : new.n ≡ old.n
   pub world : new.world ≡ put old.world old.n (reached new)
+
+-- how the node is reached: each call meets the node that the last one left, and its keeper never fails
+abbrev pub at_reach : Reach At
+at_reach = record { node = reached; met = λ old new. reached old; follows = λ a left meets. meets ≡ left; keeps = IsBeside; faults = λ a. 0 }
 
 -- a CSN of which this holds at the node, and that no ticket of the world at that node has, in the node's present life
 pub record IsApart (holds : Node → Csn → Type 0) (a : At) (csn : Csn) : Type 0 where

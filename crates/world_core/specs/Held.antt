@@ -2,9 +2,11 @@
 use Rattle.std.specs.Prelude.{ℕ, Bool, true, false, Option, Some, None}
 use Rattle.repl_data.specs.declared.csn.Csn.{Csn}
 use Rattle.pending_core.specs.Draw.{generator_at}
+use Rattle.node_core.specs.declared.fault.BeginFault.{BeginFault}
+use Rattle.node_core.specs.declared.fault.BeginFault.TheVariants as begin
 use Rattle.node_core.specs.declared.fault.CommitFault.{CommitFault}
 use Rattle.node_core.specs.declared.fault.CommitFault.TheVariants as commit
-use Rattle.node_core.specs.Steps.{CommitAnswer, Stale, Refused, CommitExhausted}
+use Rattle.node_core.specs.Steps.{NoTicket, Full, Exhausted, CommitAnswer, Stale, Refused, CommitExhausted}
 use Rattle.world_core.specs.declared.held.Stage.{Stage}
 use Rattle.world_core.specs.declared.held.Stage.TheVariants.{Open, Committed}
 
@@ -21,6 +23,12 @@ stage_csn (Committed receipt) = receipt.csn
 abbrev pub is_committed : Stage → Bool
 is_committed (Open ticket) = false
 is_committed (Committed receipt) = true
+
+-- why no CSN was drawn, by the fault of a begin; none where memory was wanting
+abbrev pub no_ticket_of : BeginFault → Option NoTicket
+no_ticket_of begin.Full = Some Full
+no_ticket_of (begin.Exhausted last) = Some (Exhausted last)
+no_ticket_of begin.NoMemory = None
 
 -- the answer that a fault of a commit stands for; none where memory was wanting, or the keeper failed
 abbrev pub answer_of : CommitFault → Option CommitAnswer

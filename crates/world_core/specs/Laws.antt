@@ -15,7 +15,8 @@ use Rattle.ldap_rules.specs.Verdict.{Writes}
 use Rattle.change_log.specs.Log.{prev_in}
 use Rattle.node_core.specs.Node.{Node, front, vector_of}
 use Rattle.node_core.specs.Steps.{Judge, form_fault}
-use Rattle.node_core.specs.Sound.{IsSoundNode, GoesOn, IsOpen, IsSoundWrite}
+use Rattle.node_core.specs.Sound.{IsSoundNode, GoesOn, IsOpen}
+pub use Rattle.node_core.specs.Sound.{IsOwnEntry, IsSoundJudge}
 use Rattle.node_core.specs.Calls.{IsWrite}
 use Rattle.world_core.specs.declared.event.Event.{Event}
 use Rattle.world_core.specs.declared.event.Event.TheVariants.{Clock, Start, Commit, Settle, Abort, Acquire, Release, Offer, Deliver, Vector, Dump}
@@ -141,6 +142,15 @@ abbrev pub IsHonestRun : Judge → World → List Deed → Type 0
 IsHonestRun judge w [] = Unit {0}
 IsHonestRun judge w (d ∷ ds) = IsHonestDeed w d × IsHonestRun judge (after judge w d) ds
 
+-- A WORLD THAT CAME FROM A NEW ONE by deeds that are allowed: what holds after every run holds of it.
+pub record HasRun (judge : Judge) (w : World) : Type 0 where
+  pub suffix : Suffix
+  pub count : ℕ
+  pub few : count < 65535
+  pub deeds : List Deed
+  pub run : IsRun judge (new_world suffix count) deeds
+  pub ends : after_all judge (new_world suffix count) deeds ≡ w
+
 -- ---- THE LAWS
 
 -- each node goes on
@@ -154,18 +164,6 @@ law_of_draws =
     (judge : Judge) → (suffix : Suffix) → (n : ℕ) → n < 65535 → (before rest : List Deed) → IsRun judge (new_world suffix n) (before ++ rest) →
     AreSound (after_all judge (new_world suffix n) before).nodes
     × AllGoOn (after_all judge (new_world suffix n) before).nodes (after_all judge (new_world suffix n) (before ++ rest)).nodes
-
--- of a node's own changes the greatest that has none pending at or below it, and zero where there is none
-pub data IsOwnEntry (n : Node) (entry : Csn) : Type 0 where
-  none_free :
-      number_of entry ≡ 0 →
-      ((c : Change) → Contains n.taken c → c.csn.rid ≡ n.rid → (p : Csn) × Contains n.pending p × (number_of p ≤ number_of c.csn)) →
-      IsOwnEntry n entry
-  greatest_free :
-      (c : Change) → Contains n.taken c → c.csn.rid ≡ n.rid → c.csn ≡ entry →
-      ((p : Csn) → Contains n.pending p → number_of entry < number_of p) →
-      ((d : Change) → Contains n.taken d → d.csn.rid ≡ n.rid → number_of entry < number_of d.csn → (p : Csn) × Contains n.pending p × (number_of p ≤ number_of d.csn)) →
-      IsOwnEntry n entry
 
 -- each node's own entry is exact
 abbrev pub OwnEntriesExact : World → Type 0
@@ -184,24 +182,25 @@ law_of_prefixes =
     (judge : Judge) → (suffix : Suffix) → (n : ℕ) → n < 65535 → (deeds : List Deed) → IsRun judge (new_world suffix n) deeds → IsHonestRun judge (new_world suffix n) deeds →
     IsHonest (after_all judge (new_world suffix n) deeds)
 
--- a refusal table that gives such verdicts alone
-abbrev pub IsSoundJudge : Judge → Type 0
-IsSoundJudge judge =
-    (suffix : Suffix) → (taken : List Change) → IsClosed taken → (request : Request) → (bound : Identity) → (target : Option Uid) → (body : Body) →
-    judge suffix taken request bound ≡ Writes target body → IsSoundWrite taken target body
+-- what each node has taken is closed
+abbrev pub HoldClosed : World → Type 0
+HoldClosed w = (r : ℕ) → IsNode w.nodes r → IsClosed (node_in w r).taken
 
--- What a node has taken is closed. In all runs, where the table is sound.
+-- In all runs, where the table is sound.
 abbrev pub law_of_closed : Type 0
 law_of_closed =
     (judge : Judge) → IsSoundJudge judge → (suffix : Suffix) → (n : ℕ) → n < 65535 → (deeds : List Deed) → IsRun judge (new_world suffix n) deeds →
-    (r : ℕ) → IsNode (after_all judge (new_world suffix n) deeds).nodes r → IsClosed (node_in (after_all judge (new_world suffix n) deeds) r).taken
+    HoldClosed (after_all judge (new_world suffix n) deeds)
 
--- Each update that was offered is well formed, so no delivery is answered that it is malformed. In all runs, where the table is
--- sound.
+-- each update that was offered is well formed
+abbrev pub AreFormed : World → Type 0
+AreFormed w = (u : Update) → Contains (updates_of w) u → form_fault u ≡ None
+
+-- So no delivery is answered that it is malformed. In all runs, where the table is sound.
 abbrev pub law_of_forms : Type 0
 law_of_forms =
     (judge : Judge) → IsSoundJudge judge → (suffix : Suffix) → (n : ℕ) → n < 65535 → (deeds : List Deed) → IsRun judge (new_world suffix n) deeds →
-    (u : Update) → Contains (updates_of (after_all judge (new_world suffix n) deeds)) u → form_fault u ≡ None
+    AreFormed (after_all judge (new_world suffix n) deeds)
 
 -- two nodes with equal vectors and nothing pending have taken the same changes
 abbrev pub AgreeWhereEqual : Node → Node → Type 0

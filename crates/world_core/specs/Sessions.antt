@@ -9,10 +9,10 @@ use Rattle.vector_core.specs.declared.answers.Applied.{Applied}
 use Rattle.vector_core.specs.declared.answers.ApplyFault.{ApplyFault}
 use Rattle.vector_core.specs.declared.answers.ApplyFault.TheVariants as apply
 use Rattle.node_core.specs.Node.{Node, front, raised, vector_of}
-use Rattle.node_core.specs.Steps.{Judge, is_held_by, offer, apply_answer}
+use Rattle.node_core.specs.Steps.{Judge, day, is_held_by, offer, apply_answer}
 use Rattle.node_core.specs.Sound.{IsSoundNode, GoesOn}
-use Rattle.world_core.specs.World.{Deed, new_world, node_in, after_all}
-use Rattle.world_core.specs.Laws.{IsNode, IsRun, IsHonestRun, IsSoundJudge}
+use Rattle.world_core.specs.World.{World, Deed, new_world, node_in, after_all}
+use Rattle.world_core.specs.Laws.{IsNode, IsRun, IsHonestRun, IsSoundJudge, Leads}
 
 -- The consumer has followed a cursor: each entry of it is at or below the consumer's own.
 abbrev pub IsFollowed : Node → List Csn → Type 0
@@ -33,6 +33,24 @@ IsWelcome (Err apply.KeeperFault) = Unit {0}
 abbrev pub IsOk : Result Applied ApplyFault → Type 0
 IsOk (Ok applied) = Unit {0}
 IsOk (Err fault) = ⊥
+
+-- What a node offers for a cursor that the consumer has followed is welcome there, whoever delivers it, now and in each world that
+-- this one leads to by honest deeds.
+abbrev pub OffersWelcome : Judge → World → Type 0
+OffersWelcome judge w =
+    (v : World) → Leads judge w v → (a b : ℕ) → IsNode w.nodes a → IsNode w.nodes b → a ≢ b →
+    (cursor : List Csn) → IsFollowed (node_in w b) cursor →
+    (u : Update) → offer (node_in w a) cursor ≡ Some u →
+    (from now : ℕ) → (fails : Bool) → IsWelcome (apply_answer (node_in v b) from u now fails)
+
+-- It is Ok there where its deliverer holds the consumer, its time is at most a day ahead and the keeper does not fail.
+abbrev pub OffersTaken : Judge → World → Type 0
+OffersTaken judge w =
+    (v : World) → Leads judge w v → (a b : ℕ) → IsNode w.nodes a → IsNode w.nodes b → a ≢ b →
+    (cursor : List Csn) → IsFollowed (node_in w b) cursor →
+    (u : Update) → offer (node_in w a) cursor ≡ Some u →
+    (from now : ℕ) → is_held_by (node_in v b).holder from ≡ true → u.change.csn.time ≤ now + day →
+    IsOk (apply_answer (node_in v b) from u now false)
 
 -- In honest runs what a node offers for a cursor that the consumer has followed is welcome there, whoever delivers it, and also
 -- where it is delivered later.
@@ -57,7 +75,7 @@ law_of_progress =
     (a b : ℕ) → IsNode w.nodes a → IsNode w.nodes b → a ≢ b →
     (cursor : List Csn) → IsFollowed (node_in w b) cursor →
     (u : Update) → offer (node_in w a) cursor ≡ Some u →
-    (from now : ℕ) → is_held_by (node_in v b).holder from ≡ true → u.change.csn.time ≤ now + 86400 →
+    (from now : ℕ) → is_held_by (node_in v b).holder from ≡ true → u.change.csn.time ≤ now + day →
     IsOk (apply_answer (node_in v b) from u now false)
 
 -- A session begins followed, at the consumer's vector. An Ok leaves the CSN at or below the consumer's entry, and a cursor that

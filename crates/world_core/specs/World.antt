@@ -1,5 +1,5 @@
 -- A world of nodes, and what each event does to it.
-use Rattle.std.specs.Prelude.{ℕ, zero, suc, ◌+◌, Bool, true, false, not, ◌&&◌, nat_lt, nat_le, ◌==◌, if◌then◌else◌, List, [], ◌∷◌, ◌++◌, map, filter, find, length, codes, Option, Some, None, Result, Ok, Err, slice_get, slice_index_or, slice_set}
+use Rattle.std.specs.Prelude.{ℕ, zero, suc, ◌+◌, Bool, true, false, not, ◌&&◌, nat_lt, nat_le, ◌==◌, if◌then◌else◌, List, [], ◌∷◌, ◌++◌, map, filter, find, length, Option, Some, None, Result, Ok, Err, slice_get, slice_index_or, slice_set}
 use Rattle.repl_data.specs.declared.csn.Csn.{Csn}
 use Rattle.repl_data.specs.declared.change.Suffix.{Suffix}
 use Rattle.repl_data.specs.declared.change.Update.{Update}
@@ -11,10 +11,9 @@ use Rattle.ldap_rules.specs.Verdict.{Verdict}
 use Rattle.vector_core.specs.declared.answers.Applied.{Applied}
 use Rattle.vector_core.specs.declared.answers.ApplyFault.{ApplyFault}
 use Rattle.vector_core.specs.declared.answers.AcquireFault.{AcquireFault}
-use Rattle.node_core.specs.declared.fault.BeginFault.{BeginFault}
-use Rattle.node_core.specs.declared.fault.BeginFault.TheVariants as begin
 use Rattle.node_core.specs.Node.{Node, new_node, raised, vector_of}
-use Rattle.node_core.specs.Steps.{Judge, verdict_at, csn_at, begin_answer, after_begin, CommitAnswer, Stale, Refused, CommitExhausted, KeeperFailed, Committed, commit_answer, after_commit, ended, offer, apply_answer, after_apply, acquire_fault, after_acquire, released}
+use Rattle.node_core.specs.Steps.{NoTicket, Full, Exhausted, Judge, verdict_at, csn_at, begin_answer, after_begin, CommitAnswer, Stale, Refused, CommitExhausted, KeeperFailed, Committed, commit_answer, after_commit, ended, offer, apply_answer, after_apply, acquire_fault, after_acquire, released}
+pub use Rattle.node_core.specs.Answers.{used_up}
 pub use Rattle.world_core.specs.declared.parts.Session.{Session}
 pub use Rattle.world_core.specs.declared.parts.Offered.{Offered}
 use Rattle.world_core.specs.declared.event.Event.{Event}
@@ -155,17 +154,13 @@ last_csn n last = csn_at n.rid last
 abbrev pub new_ticket : World → ℕ → ℕ → Request → Identity → Csn → Ticket
 new_ticket w k n request bound csn = record { number = k; node = n; life = (node_in w n).life; csn = csn; request = request; bound = bound; committed = false; trouble = None }
 
-abbrev pub started : World → ℕ → ℕ → Request → Identity → Result Csn BeginFault → Outcome
+abbrev pub started : World → ℕ → ℕ → Request → Identity → Result Csn NoTicket → Outcome
 started w k n request bound (Ok csn) =
     record { world = record (begin_at w n) { tickets = with_ticket (new_ticket w k n request bound csn) w.tickets }; happened = what.Started csn }
-started w k n request bound (Err (begin.Exhausted last)) = record { world = w; happened = what.Exhausted (last_csn (node_in w n) last) }
-started w k n request bound (Err begin.Full) = record { world = w; happened = what.Full }
-started w k n request bound (Err begin.NoMemory) = record { world = w; happened = what.Full }
+started w k n request bound (Err (Exhausted last)) = record { world = w; happened = what.Exhausted (last_csn (node_in w n) last) }
+started w k n request bound (Err Full) = record { world = w; happened = what.Full }
 
--- 53 unwillingToPerform and 52 unavailable
-abbrev pub used_up : LdapResult
-used_up = record { code = record { number = 53 }; matched = []; text = codes "csn space used up" }
-
+-- 52 unavailable
 abbrev pub keeper_failed : LdapResult
 keeper_failed = record { code = record { number = 52 }; matched = []; text = [] }
 

@@ -5,9 +5,7 @@ use Rattle.ldap_types.specs.declared.request.Request.{Request}
 use Rattle.ldap_types.specs.declared.reply.Identity.{Identity}
 use Rattle.ldap_types.specs.declared.reply.LdapResult.{LdapResult}
 use Rattle.ldap_rules.specs.Verdict.{Verdict}
-use Rattle.node_core.specs.declared.fault.BeginFault.{BeginFault}
-use Rattle.node_core.specs.declared.fault.BeginFault.TheVariants as begin
-use Rattle.node_core.specs.Steps.{Judge, verdict_at, begin_answer, CommitAnswer, Stale, Refused, CommitExhausted, KeeperFailed, Committed}
+use Rattle.node_core.specs.Steps.{NoTicket, Full, Exhausted, Judge, verdict_at, begin_answer, CommitAnswer, Stale, Refused, CommitExhausted, KeeperFailed, Committed}
 use Rattle.world_core.specs.World.{World, node_in, begin_at, committing, commit_at, end_at, used_up, keeper_failed}
 
 -- 0 success, and 51 busy where as many CSNs are pending as can be
@@ -38,14 +36,13 @@ abbrev pub finished : World → ℕ → Csn → Verdict → CommitAnswer → Wor
 finished w r csn verdict answer =
     (end_at (commit_at w r (node_in w r).life csn verdict) r (node_in w r).life (csn_after csn answer), result_of answer)
 
-abbrev pub written_from : Judge → World → ℕ → Request → Identity → Result Csn BeginFault → World × LdapResult
+abbrev pub written_from : Judge → World → ℕ → Request → Identity → Result Csn NoTicket → World × LdapResult
 written_from judge w r request bound (Ok csn) =
     let begun = begin_at w r in
     let verdict = verdict_at judge (node_in begun r) request bound in
     finished begun r csn verdict (committing begun r (node_in begun r).life csn verdict)
-written_from judge w r request bound (Err (begin.Exhausted last)) = (w, used_up)
-written_from judge w r request bound (Err begin.Full) = (w, busy)
-written_from judge w r request bound (Err begin.NoMemory) = (w, busy)
+written_from judge w r request bound (Err (Exhausted last)) = (w, used_up)
+written_from judge w r request bound (Err Full) = (w, busy)
 
 abbrev pub write_in : Judge → World → ℕ → Request → Identity → World × LdapResult
 write_in judge w r request bound = written_from judge w r request bound (begin_answer (node_in w r) w.clock)

@@ -1,15 +1,19 @@
 //! A node of a world, reached by the calls of a node.
 
-ghost use Rattle.std.specs.Prelude.{◌≡◌, true};
+ghost use Rattle.std.specs.Prelude.{◌≡◌, ◌<◌, true};
 ghost use Rattle.world_core.specs.World.{is_node};
 
+use crate::nodes::{
+    abort_at, acquire_at, apply_at, begin_at, commit_at, node_at, release_at, settle_at,
+};
+use crate::state::WorldState;
 use crate::world::World;
 use ldap_types::{Identity, Request};
 use node_core::{
     AcquireFault, Applied, ApplyFault, BeginFault, CommitFault, NodeCalls, Offer, Receipt, Start,
     Ticket,
 };
-use repl_data::{NoMemory, Update};
+use repl_data::{Csn, NoMemory, Update};
 use std::alloc::Global;
 use std::marker::Model;
 use vector_core::Vector;
@@ -18,26 +22,46 @@ use vector_core::Vector;
 /// it back.
 ///
 /// Its tickets are those that its calls draw: a ticket of the world is none of them.
-#[derive(Debug, Drop)]
+#[derive(Debug)]
 pub struct AtNode {
-    world: World,
+    state: WorldState,
     n: u16,
 }
 
 impl Model for AtNode {
     ghost use Rattle.std.specs.Coded.{codes};
     ghost use Rattle.ldap_types.specs.contracts.request.Filter as filter;
-    ghost use Rattle.std.specs.Prelude.{◌≡◌, true};
     ghost use Rattle.world_core.specs.At.{At};
-    ghost use Rattle.world_core.specs.World.{is_node};
 
     ghost Value = { At };
 
     ghost coded = { Prim.hlevel (codes, filter.the_row.coded) };
 
-    ghost view = { λ a. record { world = a.world; n = a.n } };
+    ghost use Rattle.world_core.specs.Laws.{IsNode};
+    ghost use Rattle.world_core.specs.State.{world_of};
+    ghost use Rattle.world_core.specs.Taken.{IsKept};
 
-    ghost invariant = { λ a. is_node a.world a.n ≡ true };
+    ghost view = { λ a. record { world = world_of a.state; n = a.n } };
+
+    ghost invariant = { λ a. IsKept (world_of a.state) × IsNode a.state.nodes.items a.n };
+}
+
+impl Drop for AtNode {
+    /// Gives up the tickets that the world has.
+    fn drop(self) {
+        let AtNode { state, n: _ } = self;
+        state.end();
+    }
+}
+
+/// The sequence number and the replica id. (For the prover alone: numbers that are read are known to be
+/// within their range.)
+fn parts(csn: Csn) -> (u16, u16)
+    ensures value { result ≡ (csn.seq, csn.rid) }
+    ensures seq { csn.seq < 65536 }
+    ensures rid { csn.rid < 65536 }
+{
+    (csn.seq, csn.rid)
 }
 
 impl AtNode {
@@ -46,41 +70,36 @@ impl AtNode {
         requires { is_node world n ≡ true }
         ensures { result ≡ record { world = world; n = n } }
     {
-        AtNode { world, n }
+        AtNode {
+            state: world.into_state(),
+            n,
+        }
     }
 
     /// The world, as the calls of the node left it.
     pub fn into_world(self) -> World
         ensures { result ≡ self.world }
     {
-        let AtNode { world, n: _ } = self;
-        world
+        let AtNode { state, n: _ } = self;
+        World { state }
     }
 }
 
 /// Each call is that step of the node, by the time that is given.
 impl NodeCalls for AtNode {
-    ghost use Rattle.std.specs.Prelude.{◌≡◌};
-    ghost use Rattle.world_core.specs.At.{reached, IsBeside, IsOpenAt, IsCommittedAt};
+    ghost use Rattle.world_core.specs.At.{at_reach, IsOpenAt, IsCommittedAt};
 
-    ghost node = { reached };
-
-    ghost met = { λ old _. reached old };
-
-    ghost follows = { λ _ left meets. meets ≡ left };
+    // A call meets the node that the last one left, and changes nothing beside it. The keeper of a world's node never fails.
+    ghost reach = { at_reach };
 
     ghost is_open = { IsOpenAt };
 
     ghost is_committed = { IsCommittedAt };
 
-    ghost keeps = { IsBeside };
-
     ghost heard = { λ _ update. update };
 
-    ghost faults = { λ _. 0 };
-
     fn begin(&mut self, _alloc: Global, now: u32) -> Result<Ticket, BeginFault> {
-        self.world.begin_at(self.n, now)
+        begin_at(&mut self.state.nodes, self.n, now)
     }
 
     fn commit(
@@ -91,28 +110,35 @@ impl NodeCalls for AtNode {
         bound: Identity,
         now: u32,
     ) -> Result<Receipt, (Ticket, CommitFault)> {
-        self.world
-            .commit_at(alloc, self.n, ticket, request, bound, now)
+        commit_at(
+            &mut self.state.nodes,
+            alloc,
+            self.n,
+            ticket,
+            request,
+            bound,
+            now,
+        )
     }
 
     fn abort(&mut self, ticket: Ticket) {
-        self.world.abort_at(self.n, ticket);
+        abort_at(&mut self.state.nodes, self.n, ticket);
     }
 
     fn settle(&mut self, receipt: Receipt) {
-        self.world.settle_at(self.n, receipt);
+        settle_at(&mut self.state.nodes, self.n, receipt);
     }
 
     fn acquire(&mut self, _alloc: Global, start: &Start, now: u32) -> Result<(), AcquireFault> {
-        self.world.acquire_at(self.n, start, now)
+        acquire_at(&mut self.state.nodes, self.n, start, now)
     }
 
     fn release(&mut self, rid: u16) {
-        self.world.release_at(self.n, rid);
+        release_at(&mut self.state.nodes, self.n, rid);
     }
 
     fn offer(&mut self, alloc: Global, beyond: &Vector) -> Result<Offer, NoMemory> {
-        self.world.offer_at(alloc, self.n, beyond)
+        node_at(self.state.nodes.as_slice(), self.n).offer(alloc, beyond)
     }
 
     fn apply(
@@ -122,10 +148,11 @@ impl NodeCalls for AtNode {
         update: &Update,
         now: u32,
     ) -> Result<Applied, ApplyFault> {
-        self.world.apply_at(alloc, self.n, from, update, now)
+        let _parts = parts(update.change.csn);
+        apply_at(&mut self.state.nodes, alloc, self.n, from, update, now)
     }
 
     fn vector(&mut self, alloc: Global) -> Result<Vector, NoMemory> {
-        self.world.vector_at(alloc, self.n)
+        node_at(self.state.nodes.as_slice(), self.n).vector(alloc)
     }
 }

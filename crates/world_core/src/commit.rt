@@ -4,7 +4,7 @@ ghost use Rattle.std.specs.Prelude.{◌≡◌, ◌≢◌, ◌==◌, false, IfOk,
 ghost use Rattle.node_core.specs.Node.{Node};
 ghost use Rattle.node_core.specs.Sound.{IsOpen};
 ghost use Rattle.node_core.specs.Steps.{judge_view};
-ghost use Rattle.world_core.specs.World.{Ticket as WorldTicket, node_of, ticket_in, ticket_after, commit_happened, commit_ticket, used_up};
+ghost use Rattle.world_core.specs.World.{Ticket as WorldTicket, node_of, ticket_in, ticket_after, commit_happened, commit_ticket};
 ghost use Rattle.node_core.specs.Calls.{IsWrite};
 ghost use Rattle.world_core.specs.Laws.{IsNode};
 ghost use Rattle.world_core.specs.Held.{answer_of};
@@ -18,21 +18,10 @@ use crate::nodes::{commit_at, node_at};
 use crate::places::place_of;
 use crate::start::csn_at;
 use crate::state::WorldState;
-use ldap_types::{Code, LdapResult};
-use node_core::{CommitFault, NodeState};
-use repl_data::{Bytes, NoMemory};
+use ldap_types::LdapResult;
+use node_core::{CommitFault, NodeState, used_up};
+use repl_data::NoMemory;
 use std::alloc::Global;
-
-/// The result 53 unwillingToPerform that says that no CSN is left.
-fn used_up(alloc: Global) -> Result<LdapResult, NoMemory>
-    ensures { IfOk result (λ answer. answer ≡ used_up) }
-{
-    Ok(LdapResult {
-        code: Code::UNWILLING_TO_PERFORM,
-        matched: Bytes::new(alloc),
-        text: Bytes::from_slice(alloc, b"csn space used up")?,
-    })
-}
 
 /// What a commit that failed has come to, and what its ticket keeps of it.
 #[derive(Debug, Drop)]

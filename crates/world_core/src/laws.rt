@@ -1,10 +1,8 @@
 //! What holds after every run.
 
-ghost use Rattle.node_core.specs.Steps.{Judge, judge_view};
+ghost use Rattle.node_core.specs.Steps.{Judge};
 ghost use Rattle.world_core.specs.World.{World, Deed, after};
-ghost use Rattle.world_core.specs.Laws.{IsLawful, May, IsHonestDeed, IsHonest, law_of_draws, law_of_own_entries, law_of_prefixes, law_of_closed, law_of_forms, law_of_agreement, law_of_views, law_of_writes, IsSoundJudge};
-
-use ldap_rules::rule_laws;
+ghost use Rattle.world_core.specs.Laws.{IsLawful, May, IsHonestDeed, IsHonest, law_of_draws, law_of_own_entries, law_of_prefixes, law_of_closed, law_of_forms, law_of_agreement, law_of_views, law_of_writes};
 
 /// What one deed keeps, an event or a call.
 pub fn deed_laws()
@@ -49,10 +47,3 @@ pub fn write_laws()
     // A begin, a commit, and a settle or an abort, each of them allowed where it comes.
     ensures calls { law_of_writes }
 {}
-
-/// The refusal table of LDAP is one of which these laws hold.
-pub fn judge_laws()
-    ensures sound { IsSoundJudge judge_view }
-{
-    rule_laws();
-}

@@ -2,7 +2,6 @@
 #![tactic(auto)]
 
 mod at;
-mod calls;
 mod commit;
 mod end;
 mod event;
@@ -21,7 +20,8 @@ mod world;
 
 pub use at::AtNode;
 pub use event::{CsnList, Event, Happened};
-pub use laws::{deed_laws, honest_laws, judge_laws, run_laws, write_laws};
+pub use laws::{deed_laws, honest_laws, run_laws, write_laws};
+pub use node_core::judge_laws;
 pub use parts::{Offered, Session};
 pub use sessions::session_laws;
 pub use world::World;

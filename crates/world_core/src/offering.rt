@@ -63,6 +63,7 @@ fn raised(alloc: Global, vector: &Vector, csn: Csn) -> Result<Vector, NoMemory>
     let mut new = Vector::new(alloc)?;
     new.merge(alloc, vector)?;
     new.raise(alloc, csn)?;
+    // For the prover alone: that the entries of a vector rise is known once they are looked at.
     let _entries = vector.entries();
     Ok(new)
 }

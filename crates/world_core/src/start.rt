@@ -1,11 +1,12 @@
 //! The start of a ticket.
 
-ghost use Rattle.std.specs.Prelude.{◌≡◌, ℕ, ◌<◌, false, None, Err, IfOk, OnErr, find, ◌==◌, vec_len, vec_capacity};
+ghost use Rattle.std.specs.Prelude.{◌≡◌, ℕ, ◌<◌, false, None, Some, Err, IfOk, OnErr, find, ◌==◌, vec_len, vec_capacity};
 ghost use Rattle.ldap_types.specs.declared.request.Request.{Request};
 ghost use Rattle.ldap_types.specs.declared.reply.Identity.{Identity};
-ghost use Rattle.node_core.specs.Steps.{judge_view, csn_at, begin_answer};
+ghost use Rattle.node_core.specs.Steps.{NoTicket, judge_view, csn_at, begin_answer};
 ghost use Rattle.world_core.specs.World.{World, Ticket as WorldTicket, node_in, ticket_in, with_ticket, started, step};
 ghost use Rattle.world_core.specs.declared.event.Event.{Event};
+ghost use Rattle.world_core.specs.Held.{no_ticket_of};
 ghost use Rattle.world_core.specs.Laws.{IsNode};
 ghost use Rattle.world_core.specs.State.{world_of};
 
@@ -33,7 +34,7 @@ pub(crate) fn csn_at(rid: u16, last: (u32, u16)) -> Csn
 
 /// What became of a start for which the node of this replica id gave no ticket.
 fn not_begun(rid: u16, fault: BeginFault) -> Result<Happened, NoMemory>
-    ensures ok { IfOk result (λ happened. (w : World) (k n : ℕ) (request : Request) (bound : Identity) → (node_in w n).rid ≡ rid → started w k n request bound (Err fault) ≡ record { world = w; happened = happened }) }
+    ensures ok { IfOk result (λ happened. (w : World) (k n : ℕ) (request : Request) (bound : Identity) (why : NoTicket) → no_ticket_of fault ≡ Some why → (node_in w n).rid ≡ rid → started w k n request bound (Err why) ≡ record { world = w; happened = happened }) }
     ensures err { OnErr result (fault ≡ BeginFault.NoMemory) }
 {
     match fault {

@@ -4,11 +4,15 @@ ghost use Rattle.std.specs.Prelude.{◌≡◌, ◌≤◌, true, is_some, option_
 ghost use Rattle.repl_data.specs.declared.change.Suffix.{Suffix};
 ghost use Rattle.node_core.specs.Steps.{judge_view};
 ghost use Rattle.world_core.specs.World.{Ticket, new_world, is_node, step, ticket_in, session_in, update_in};
-ghost use Rattle.world_core.specs.Laws.{MayHappen, IsHonest};
+ghost use Rattle.world_core.specs.Laws.{MayHappen, IsHonest, IsLawful, IsHonestRun, HasRun, HoldClosed, AreFormed, OwnEntriesExact, AllAgree, ShowTheSame};
+ghost use Rattle.world_core.specs.State.{world_of};
+ghost use Rattle.world_core.specs.Taken.{AreTaken, IsKept};
+ghost use Rattle.world_core.specs.Sessions.{OffersWelcome, OffersTaken};
 
 use crate::event::{Event, Happened};
 use crate::nodes::new_nodes;
 use crate::state::WorldState;
+use node_core::judge_laws;
 use repl_data::{NoMemory, Suffix};
 use std::alloc::Global;
 use std::marker::Model;
@@ -48,6 +52,15 @@ impl Drop for World {
 }
 
 impl World {
+    /// What the world consists of.
+    pub(crate) fn into_state(self) -> WorldState
+        ensures state { world_of result ≡ self }
+        ensures kept { IsKept (world_of result) }
+    {
+        let World { state } = self;
+        state
+    }
+
     /// A world of nodes 1 to `n`, whose directories have this suffix.
     pub fn new(alloc: Global, n: u16, suffix: &Suffix) -> Result<World, NoMemory>
         requires { n ≤ 8 }
@@ -78,6 +91,48 @@ impl World {
                 offered: Vec::new(alloc),
             },
         }
+    }
+
+    /// What holds of every world; and, where each update that a client fed was one that some node had
+    /// offered, what holds of an honest one.
+    pub fn laws(&self)
+        // It came from a new world by deeds that are allowed: each law of runs is one of this world.
+        ensures came { HasRun judge_view self.now }
+
+        // Each node is sound, and each ticket of its present life pending there.
+        ensures lawful { IsLawful self.now }
+
+        // The change of each committed ticket is taken at its node.
+        ensures taken { AreTaken self.now.nodes self.now.tickets }
+
+        // What each node has taken is closed.
+        ensures closed { HoldClosed self.now }
+
+        // Each update that was offered is well formed.
+        ensures forms { AreFormed self.now }
+
+        // Each node's own entry is its greatest change with none pending at or below it.
+        ensures own_entries { OwnEntriesExact self.now }
+
+        // Where it came by an honest run, it is honest: each node holds a prefix of each originator's changes, no vector runs
+        // ahead, and what was offered is committed, with the greatest CSN below it.
+        ensures honest { (run : HasRun judge_view self.now) → IsHonestRun judge_view (new_world run.suffix run.count) run.deeds → IsHonest self.now }
+
+        // In an honest one, nodes with equal vectors and nothing pending have taken the same changes.
+        ensures agreement { IsHonest self.now → AllAgree self.now }
+
+        // They show the same entries.
+        ensures views { IsHonest self.now → ShowTheSame self.now }
+
+        // What a node offers to a consumer that has followed it is not refused there for what is lacking, now or later.
+        ensures welcome { IsHonest self.now → OffersWelcome judge_view self.now }
+
+        // It is taken or a duplicate there, where its deliverer holds the consumer and its time is at most a day ahead.
+        ensures progress { IsHonest self.now → OffersTaken judge_view self.now }
+    {
+        judge_laws();
+        // For the prover alone: what the type keeps is known once the world is looked at.
+        let _ = &self.state;
     }
 
     /// The time that all nodes share, in seconds since 1970.

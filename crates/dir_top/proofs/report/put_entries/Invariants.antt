@@ -1,6 +1,6 @@
 use Rattle.std.proofs.Common.{◌≡◌, ◌++◌, take}
 use Rattle.std.specs.List.{flat_map}
-use Rattle.dir_top.specs.Print.{entry_lines}
+use Rattle.script_text.specs.Print.{entry_lines}
 use Rattle.dir_top.proofs.report.put_entries.Given as goal
 
 abbrev pub invariant-loop-entry : goal.invariant-loop-entry

@@ -13,9 +13,9 @@ invariant-loop-at g l = record {
   closed : l.self.is_closed ≡ l.fn.self.is_closed;
   open_tickets : AreSame (g.N.NodeCalls.is_open l.fn.node) (g.N.NodeCalls.is_open l.node);
   committed : AreSame (g.N.NodeCalls.is_committed l.fn.node) (g.N.NodeCalls.is_committed l.node);
-  life : (g.N.NodeCalls.node l.node).life ≡ (g.N.NodeCalls.node l.fn.node).life;
-  carried : (left : List ℕ) (t : Session g.row.N.Denot) → Carries (record { node = g.N.NodeCalls.node; met = g.N.NodeCalls.met; follows = g.N.NodeCalls.follows; keeps = g.N.NodeCalls.keeps; faults = g.N.NodeCalls.faults }) l.now (drop l.at l.stream) (session l.self l.node) left t
-      → Carries (record { node = g.N.NodeCalls.node; met = g.N.NodeCalls.met; follows = g.N.NodeCalls.follows; keeps = g.N.NodeCalls.keeps; faults = g.N.NodeCalls.faults }) l.now l.stream (session l.fn.self l.fn.node) left t;
+  life : (g.N.NodeCalls.reach.node l.node).life ≡ (g.N.NodeCalls.reach.node l.fn.node).life;
+  carried : (left : List ℕ) (t : Session g.row.N.Denot) → Carries g.N.NodeCalls.reach l.now (drop l.at l.stream) (session l.self l.node) left t
+      → Carries g.N.NodeCalls.reach l.now l.stream (session l.fn.self l.fn.node) left t;
 }
 
 abbrev pub decreases-loop-at : goal.decreases-loop-at

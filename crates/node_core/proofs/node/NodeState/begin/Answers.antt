@@ -1,9 +1,8 @@
 use Rattle.std.proofs.Common.{◌≡◌, ◌<◌, sym, subst, ap, ◌∙◌, arith, length, option_map, Some, None}
 use Rattle.std.specs.Prelude.{Ok, Err}
 use Rattle.pending_core.specs.Draw.{draw}
-use Rattle.node_core.specs.declared.fault.BeginFault.TheVariants as begin
 use Rattle.node_core.specs.Node.{Node}
-use Rattle.node_core.specs.Steps.{csn_at, after_begin}
+use Rattle.node_core.specs.Steps.{Exhausted, csn_at, after_begin}
 use Rattle.node_core.proofs.Keeping.{begin_exhausted, begin_drawn, drawn_above, kept-drawn}
 use Rattle.node_core.proofs.node.NodeState.begin.Goals as goal
 
@@ -12,7 +11,7 @@ returns-in_default-clause-step c =
     let last = c.in_default.ensures.last in
     let few = subst (λ (n : Node). length n.pending < 1024) c.self.view_is (let value = c.len.ensures.value in omega (arith, c.if-len-ge-PLACES.false)) in
     let none = subst (λ (n : Node). option_map (csn_at n.rid) (draw n.last c.args.now) ≡ None) c.self.view_is (sym c.draw.ensures.csn ∙ c.in_default.is) in
-    let at = ap (λ (n : Node). Err (begin.Exhausted (n.last.time, n.last.seq))) c.self.view_is in
+    let at = ap (λ (n : Node). Err (Exhausted (n.last.time, n.last.seq))) c.self.view_is in
     rw last (begin_exhausted c.args.self.now c.args.now few none ∙ sym at, c.self.view_is)
 
 pub begin-requires : goal.begin-requires

@@ -15,7 +15,7 @@ update_with change prev = record { change = change; prev = prev }
 
 pub returns-in_default : goal.returns-in_default
 returns-in_default c =
-    let none = subst (λ (n : Node). All (λ (d : Change). is_between c.args.beyond.now c.in_ok-limit.limit d.csn ≡ false) n.taken) c.self.view_is c.in_default.ensures in
+    let none = subst (λ (n : Node). All (λ (d : Change). is_between c.args.beyond.now c.in_ok-limit.limit d.csn ≡ false) n.taken) c.self.view_is c.in_default.ensures.next in
     offer-done c.args.self.now c.args.beyond.now c.in_ok-limit.limit c.in_ok-limit.ensures none
 
 pub returns : goal.returns
@@ -24,10 +24,10 @@ returns c =
     let copy = c.in_ok-change.change in
     let same = sym c.in_ok-change.ensures in
     let sound = subst IsSoundNode c.self.view_is c.self.invariant.0.sound in
-    let here = subst (λ (n : Node). Contains n.taken c.in_ok-change.change) c.self.view_is (subst (λ z. Contains c.self.inside.log.changes z) same c.in-Some.ensures.0) in
-    let passes = subst (λ (z : Change). is_between c.args.beyond.now c.in_ok-limit.limit z.csn ≡ true) same c.in-Some.ensures.1 in
+    let here = subst (λ (n : Node). Contains n.taken c.in_ok-change.change) c.self.view_is (subst (λ z. Contains c.self.inside.log.changes z) same c.in-Some.ensures.next.stands) in
+    let passes = subst (λ (z : Change). is_between c.args.beyond.now c.in_ok-limit.limit z.csn ≡ true) same c.in-Some.ensures.next.between in
     let least = subst (λ (n : Node). All (λ (d : Change). is_between c.args.beyond.now c.in_ok-limit.limit d.csn ≡ true → csn_le c.in_ok-change.change.csn d.csn ≡ true) n.taken) c.self.view_is
-    (subst (λ (z : Change). All (λ (d : Change). is_between c.args.beyond.now c.in_ok-limit.limit d.csn ≡ true → csn_le z.csn d.csn ≡ true) c.self.inside.log.changes) same c.in-Some.ensures.2) in
-    let prev = c.prev-prev.ensures ∙ ap (λ (n : Node). prev_in n.taken c.in_ok-change.change.csn) c.self.view_is in
+    (subst (λ (z : Change). All (λ (d : Change). is_between c.args.beyond.now c.in_ok-limit.limit d.csn ≡ true → csn_le z.csn d.csn ≡ true) c.self.inside.log.changes) same c.in-Some.ensures.next.least) in
+    let prev = c.prev-prev.ensures.greatest_below ∙ ap (λ (n : Node). prev_in n.taken c.in_ok-change.change.csn) c.self.view_is in
     offer-next c.args.self.now c.args.beyond.now c.in_ok-limit.limit c.in_ok-change.change sound c.in_ok-limit.ensures here passes least
     ∙ ap (λ (p : Csn). Some (update_with c.in_ok-change.change p)) (sym prev)

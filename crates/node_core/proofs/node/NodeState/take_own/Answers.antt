@@ -1,5 +1,8 @@
-use Rattle.std.proofs.Common.{subst, sym, ap, Contains}
+use Rattle.std.proofs.Common.{◌≡◌, List, [], ◌∷◌, ◌++◌, refl, subst, sym, ap, ◌∙◌, Contains}
+use Rattle.repl_data.specs.declared.change.Change.{Change}
+use Rattle.repl_data.specs.Closed.{IsArrival}
 use Rattle.change_log.specs.Log.{Log, csns_of}
+use Rattle.node_core.specs.Node.{Node}
 use Rattle.node_core.specs.Kept.{IsChosen}
 use Rattle.node_core.specs.Sound.{IsOpen}
 use Rattle.node_core.proofs.Committing.{chosen-above, chosen-fresh, kept-own}
@@ -10,12 +13,12 @@ redraw-requires-clause-above c =
     let ch = subst (λ n. IsChosen n c.args.old c.args.change.csn) (sym c.self.view_is) c.requires.chosen in
     chosen-above _ c.args.old c.args.change.csn c.self.invariant.0.sound ch
 
-pub show-requires-clause-fresh : goal.show-requires-clause-fresh
-show-requires-clause-fresh c =
-    let log = ap (λ (l : Log). l.changes) c.in_ok-reserve.ensures.ok in
-    let ch = subst (λ n. IsChosen n c.args.old c.args.change.csn) (sym c.self.view_is) c.requires.chosen in
-    let o = subst (λ n. IsOpen n c.args.old) (sym c.self.view_is) c.requires.open in
-    λ h. chosen-fresh _ c.args.old c.args.change.csn c.self.invariant.0.sound o ch (subst (λ xs. Contains (csns_of xs) c.args.change.csn) log h)
+-- the log with the change
+arrives : (n m : Node) (log : List Change) (c : Change) → n ≡ m → IsArrival (m.taken ++ c ∷ []) → log ≡ n.taken → IsArrival (log ++ c ∷ [])
+arrives n m log c same a e = subst (λ z. IsArrival (z ++ c ∷ [])) (ap (λ (x : Node). x.taken) (sym same) ∙ sym e) a
+
+pub show-requires-clause-arrives : goal.show-requires-clause-arrives
+show-requires-clause-arrives c = arrives _ _ _ c.args.change c.self.view_is c.requires.arrives (ap (λ (l : Log). l.changes) c.in_ok-reserve.ensures.ok)
 
 pub append-requires-clause-fresh : goal.append-requires-clause-fresh
 append-requires-clause-fresh c =
@@ -26,8 +29,8 @@ append-requires-clause-fresh c =
 
 pub invariant_of-self-2 : goal.invariant_of-self-2
 invariant_of-self-2 c =
-    let log = ap (λ (l : Log). l.changes) c.append.ensures in
+    let log = ap (λ (l : Log). l.changes) c.append.ensures.appended in
     let reserved = ap (λ (l : Log). l.changes) c.in_ok-reserve.ensures.ok in
     let ch = subst (λ n. IsChosen n c.args.old c.args.change.csn) (sym c.self.view_is) c.requires.chosen in
     let o = subst (λ n. IsOpen n c.args.old) (sym c.self.view_is) c.requires.open in
-    rw (log, reserved, c.redraw.ensures.pending, c.redraw.ensures.last) (kept-own _ c.self.inside.heads c.in_ok-heads.heads c.args.old c.args.change c.self.invariant.0 o ch c.in_ok-heads.ensures, rw reserved at c.in_ok-show.ensures.ok)
+    rw (log, reserved, c.redraw.ensures.pending, c.redraw.ensures.last) (kept-own _ c.self.inside.heads c.in_ok-heads.heads c.args.old c.args.change c.self.invariant.0 o ch (arrives _ _ _ c.args.change c.self.view_is c.requires.arrives refl) c.in_ok-heads.ensures, rw reserved at c.in_ok-show.ensures.ok)

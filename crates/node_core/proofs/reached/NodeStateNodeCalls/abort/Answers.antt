@@ -7,12 +7,12 @@ use Rattle.node_core.proofs.reached.NodeStateNodeCalls.abort.Goals as goal
 
 pub returns-clause-open : goal.returns-clause-open
 returns-clause-open c = λ e.
-    subst (λ (m : Node). IsTaken (IsPending c.args.self.now) (IsPending m) c.args.ticket.csn) (sym c.abort.ensures)
+    subst (λ (m : Node). IsTaken (IsPending c.args.self.now) (IsPending m) c.args.ticket.csn) (sym c.abort.ensures.step)
     (ended-now c.args.self.now c.args.ticket.life c.args.ticket.csn e).opened
 
 pub returns-clause-committed : goal.returns-clause-committed
 returns-clause-committed c =
-    subst (λ (m : Node). AreSame (IsPendingTaken c.args.self.now) (IsPendingTaken m)) (sym c.abort.ensures)
+    subst (λ (m : Node). AreSame (IsPendingTaken c.args.self.now) (IsPendingTaken m)) (sym c.abort.ensures.step)
     (elim (cases_eq c.args.ticket.life c.args.self.now.life) [
       | inl e ↦ taken-none _ _ c.args.ticket.csn (ended-now c.args.self.now c.args.ticket.life c.args.ticket.csn e).committed (c.requires.uncommitted e)
       | inr d ↦

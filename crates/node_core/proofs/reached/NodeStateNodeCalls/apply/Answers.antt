@@ -1,12 +1,10 @@
-use Rattle.std.proofs.Common.{subst}
-use Rattle.node_core.specs.Sound.{IsSoundNode}
 use Rattle.node_core.proofs.OpenTickets.{apply-keeps_tickets}
 use Rattle.node_core.proofs.reached.NodeStateNodeCalls.apply.Goals as goal
 
 pub returns-clause-open : goal.returns-clause-open
 returns-clause-open c =
-    (apply-keeps_tickets c.args.self.now c.apply.new.self c.args.from c.args.update.now c.args.now c.apply.result (subst IsSoundNode c.self.view_is c.self.invariant.0.sound) c.apply.ensures.step).opened
+    (apply-keeps_tickets c.args.self.now c.apply.new.self c.args.from c.args.update.now c.args.now c.apply.result c.laws.ensures.sound c.apply.ensures.step).opened
 
 pub returns-clause-committed : goal.returns-clause-committed
 returns-clause-committed c =
-    (apply-keeps_tickets c.args.self.now c.apply.new.self c.args.from c.args.update.now c.args.now c.apply.result (subst IsSoundNode c.self.view_is c.self.invariant.0.sound) c.apply.ensures.step).committed
+    (apply-keeps_tickets c.args.self.now c.apply.new.self c.args.from c.args.update.now c.args.now c.apply.result c.laws.ensures.sound c.apply.ensures.step).committed

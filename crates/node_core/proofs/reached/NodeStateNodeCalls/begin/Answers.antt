@@ -1,19 +1,17 @@
-use Rattle.std.proofs.Common.{subst}
-use Rattle.node_core.specs.Sound.{IsSoundNode}
 use Rattle.node_core.proofs.OpenTickets.{begin-leaves, begin-open, begin-committed, begin-fresh}
 use Rattle.node_core.proofs.reached.NodeStateNodeCalls.begin.Goals as goal
 
 pub returns-clause-open : goal.returns-clause-open
 returns-clause-open c =
     begin-open c.args.self.now c.begin.new.self c.begin.result
-    (begin-leaves c.args.self.now c.begin.new.self c.args.now c.begin.result (subst IsSoundNode c.self.view_is c.self.invariant.0.sound) c.begin.ensures.step)
+    (begin-leaves c.args.self.now c.begin.new.self c.args.now c.begin.result c.laws.ensures.sound c.begin.ensures.step)
 
 pub returns-clause-committed : goal.returns-clause-committed
 returns-clause-committed c =
     begin-committed c.args.self.now c.begin.new.self c.begin.result
-    (begin-leaves c.args.self.now c.begin.new.self c.args.now c.begin.result (subst IsSoundNode c.self.view_is c.self.invariant.0.sound) c.begin.ensures.step)
+    (begin-leaves c.args.self.now c.begin.new.self c.args.now c.begin.result c.laws.ensures.sound c.begin.ensures.step)
 
 pub returns-clause-fresh : goal.returns-clause-fresh
 returns-clause-fresh c =
     begin-fresh c.args.self.now c.begin.new.self c.begin.result
-    (begin-leaves c.args.self.now c.begin.new.self c.args.now c.begin.result (subst IsSoundNode c.self.view_is c.self.invariant.0.sound) c.begin.ensures.step)
+    (begin-leaves c.args.self.now c.begin.new.self c.args.now c.begin.result c.laws.ensures.sound c.begin.ensures.step)

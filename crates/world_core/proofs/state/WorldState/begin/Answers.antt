@@ -19,8 +19,8 @@ returns-in-Err-clause-ok c =
     let w = world_of c.args.self.now in
     let s = begins-failed (node_in w c.args.n) w.clock c.in-Err.fault _ c.in-Err.ensures.step c.in-Err.ensures.memory in
     if_ok c.not_begun.result _ _
-    (λ happened told. start-failed w c.args.k c.args.n c.args.request c.args.bound c.in-Err.fault happened c.begin_at.new.nodes.items _ s.0 s.1 c.in-Err.ensures.others
-    (told w c.args.k c.args.n c.args.request c.args.bound (sym (c.rid-rid.ensures ∙ ap (λ m. m.rid) c.node_at.ensures ∙ ap (λ ns. (node_in (record w { nodes = ns }) c.args.n).rid) c.as_slice.ensures.value))))
+    (λ happened told. start-failed w c.args.k c.args.n c.args.request c.args.bound s.0 happened c.begin_at.new.nodes.items _ s.2 s.3 c.in-Err.ensures.others
+    (told w c.args.k c.args.n c.args.request c.args.bound s.0 s.1 (sym (c.rid-rid.ensures ∙ ap (λ m. m.rid) c.node_at.ensures ∙ ap (λ ns. (node_in (record w { nodes = ns }) c.args.n).rid) c.as_slice.ensures.value))))
     c.not_begun.ensures.ok
 
 pub returns-in-Err-clause-err : goal.returns-in-Err-clause-err
@@ -28,4 +28,4 @@ returns-in-Err-clause-err c =
     let w = world_of c.args.self.now in
     let s = begins-failed (node_in w c.args.n) w.clock c.in-Err.fault _ c.in-Err.ensures.step c.in-Err.ensures.memory in
     on_err c.not_begun.result _
-    (ap (λ ns. record w { nodes = ns }) (c.in-Err.ensures.others ∙ ap (λ m. with_node w.nodes c.args.n m) s.1 ∙ same_node w.nodes c.args.n))
+    (ap (λ ns. record w { nodes = ns }) (c.in-Err.ensures.others ∙ ap (λ m. with_node w.nodes c.args.n m) s.3 ∙ same_node w.nodes c.args.n))

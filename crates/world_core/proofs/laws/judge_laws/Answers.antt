@@ -1,5 +1,0 @@
-use Rattle.world_core.proofs.Judging.{judge_sound}
-use Rattle.world_core.proofs.laws.judge_laws.Goals as goal
-
-pub returns : goal.returns
-returns c = record { sound = judge_sound c.rule_laws.ensures.sound c.rule_laws.ensures.known }
