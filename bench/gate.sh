@@ -6,7 +6,7 @@
 set -eu
 cd "$(dirname "$0")/.."
 exec python3 - "$@" <<'END'
-import os, resource, subprocess, sys, time
+import os, resource, signal, subprocess, sys, time
 
 TICKS = os.sysconf("SC_CLK_TCK")
 LOG = os.environ.get("GATE_LOG", "/tmp/gate.log")
@@ -53,6 +53,8 @@ def look(root, works, seconds):
 
 def main():
     works, seconds = {}, {}
+    # also where the shell that started this in the background lets interrupts be ignored
+    signal.signal(signal.SIGINT, signal.default_int_handler)
     with open(LOG, "w") as log:
         gate = subprocess.Popen(
             ["rt", "ci", *sys.argv[1:]],

@@ -53,15 +53,15 @@ pub fn answer<R: Wait>(
     match fields.word()? {
         "once" => once(rt, alloc, sent, fields, told),
         "pieces" => pieces(rt, alloc, sent, fields.number()?, told),
-        "each_read" => each_read(rt, alloc, sent, fields, told),
-        "each_write" => each_write(rt, alloc, sent, fields, told),
+        "each_read" => each_failing(rt, alloc, sent, Side::Reads, fields, told),
+        "each_write" => each_failing(rt, alloc, sent, Side::Writes, fields, told),
         "joined" => joined(rt, alloc, sent, fields, told),
         _ => Err(CaseFault::Subject),
     }
 }
 
 /// A machine that has not ended.
-fn new_machine(alloc: Global) -> Result<NodeMachine<NodeState, SetClock>, CaseFault>
+pub fn new_machine(alloc: Global) -> Result<NodeMachine<NodeState, SetClock>, CaseFault>
     ensures { IfOk result (λ machine. machine.conn.is_closed ≡ false) }
 {
     let conn = or_memory(Conn::new(alloc))?;
@@ -199,45 +199,50 @@ fn tell_failing(told: &mut String, number: u64, served: &Served<'_>) -> Result<b
     Ok(is_last)
 }
 
-fn each_read<R: Wait>(
-    rt: &R,
-    alloc: Global,
-    sent: &[u8],
-    fields: &mut Fields<'_>,
-    told: &mut String,
-) -> Result<(), CaseFault> {
-    let most = next_most(fields)?;
-    for number in 1..u64::MAX {
-        let calls = Calls {
-            most,
-            reads: slice::from_ref(&number),
-            writes: &[],
-            kept: 0,
-        };
-        let served = serve(rt, alloc, sent, calls, &mut Tally::new())?;
-        if tell_failing(told, number, &served)? {
-            break;
-        }
-    }
-    Ok(())
+/// Which calls of a stream fail.
+#[derive(Clone, Copy)]
+enum Side {
+    Reads,
+    Writes,
 }
 
-fn each_write<R: Wait>(
+/// The calls where the one with this number fails, on one side.
+fn failing(side: Side, number: &u64, most: usize, kept: usize) -> Calls<'_>
+    ensures { result.most ≡ most }
+{
+    let one = slice::from_ref(number);
+    match side {
+        Side::Reads => Calls {
+            most,
+            reads: one,
+            writes: &[],
+            kept,
+        },
+        Side::Writes => Calls {
+            most,
+            reads: &[],
+            writes: one,
+            kept,
+        },
+    }
+}
+
+/// Serves the stream with the first call of a side failing, with the second, and so on.
+fn each_failing<R: Wait>(
     rt: &R,
     alloc: Global,
     sent: &[u8],
+    side: Side,
     fields: &mut Fields<'_>,
     told: &mut String,
 ) -> Result<(), CaseFault> {
     let most = next_most(fields)?;
-    let kept = fields.number()? as usize;
+    let kept = match side {
+        Side::Reads => 0,
+        Side::Writes => fields.number()? as usize,
+    };
     for number in 1..u64::MAX {
-        let calls = Calls {
-            most,
-            reads: &[],
-            writes: slice::from_ref(&number),
-            kept,
-        };
+        let calls = failing(side, &number, most, kept);
         let served = serve(rt, alloc, sent, calls, &mut Tally::new())?;
         if tell_failing(told, number, &served)? {
             break;
