@@ -1,14 +1,15 @@
 -- What stands beside a node's own parts.
-use Rattle.std.specs.Prelude.{◌≡◌, ℕ, Bool, true, false, List, Some, Ok}
-use Rattle.std.specs.List.{list_all}
+use Rattle.std.specs.Prelude.{◌≡◌, ℕ, false, List, Some, Ok}
+use Rattle.std.specs.List.{AllByRecursion}
 use Rattle.repl_data.specs.declared.csn.Csn.{Csn}
 use Rattle.repl_data.specs.declared.csn.Uid.{Uid}
 use Rattle.repl_data.specs.declared.change.Change.{Change}
 use Rattle.repl_data.specs.declared.change.Suffix.{Suffix}
 use Rattle.repl_data.specs.declared.change.Update.{Update}
 use Rattle.repl_data.specs.Closed.{IsArrival}
-use Rattle.repl_data.specs.View.{DirectoryView, view_of}
-use Rattle.plain_view.specs.Growth.{is_add}
+use Rattle.repl_data.specs.Facts.{all_facts}
+use Rattle.repl_data.specs.Text.{IsInRange}
+use Rattle.urp_tree.specs.Known.{Known}
 use Rattle.vector_core.specs.declared.answers.Applied.TheVariants.{Taken}
 use Rattle.vector_core.specs.Vector.{HasEntries}
 use Rattle.change_log.specs.Log.{csns_of}
@@ -37,12 +38,8 @@ pub record IsNext (n : Node) (c : Change) : Type 0 where
   pub change : update.change ≡ c
   pub answer : apply_answer n from update now false ≡ Ok Taken
 
--- the changes are adds, each after what it needs
-pub record AreAdds (taken : List Change) : Type 0 where
-  pub adds : list_all is_add taken ≡ true
-  pub arrival : IsArrival taken
-
--- the view of the changes; if `grows`, they are adds in an order of arrival
-pub record IsShown (suffix : Suffix) (taken : List Change) (view : DirectoryView) (grows : Bool) : Type 0 where
-  pub value : view ≡ view_of suffix taken
-  pub steps : grows ≡ true → AreAdds taken
+-- the tree of the changes, whose CSNs are within their 80 bits
+pub record IsShown (suffix : Suffix) (taken : List Change) (tree : Known) : Type 0 where
+  pub named : tree.suffix ≡ suffix.name
+  pub facts : tree.facts ≡ all_facts suffix taken
+  pub within : AllByRecursion (λ (c : Change). IsInRange c.csn) taken

@@ -15,9 +15,9 @@ ghost use Rattle.repl_data.specs.declared.change.Change.{Change};
 
 use crate::front::copied;
 use crate::node::{NodeState, is_too_late};
-use crate::shown::{is_known, show};
 use repl_data::{Body, Change, Csn, Malformed, NoMemory, Uid, Update, check};
 use std::alloc::Global;
+use urp_tree::tree_laws;
 use vector_core::{Applied, ApplyFault, Vector};
 
 /// Zero, or a CSN of the same originator with subsequence 0 below the other.
@@ -95,7 +95,7 @@ impl NodeState {
             return Err(ApplyFault::Gap { have, prev });
         }
         let id = needed(update.change.target, &update.change.body);
-        if !is_known(&self.log, self.grows, id) {
+        if !self.is_known(id) {
             return Err(ApplyFault::Missing { id });
         }
         Ok(Applied::Taken)
@@ -147,17 +147,17 @@ impl NodeState {
         ensures err { OnErr result (self.new ≡ self.old) }
     {
         // For the prover alone: numbers that are read are known to be within their range.
-        let _numbers = (change.csn.seq, change.csn.rid);
+        let _numbers = (
+            change.csn.time,
+            change.csn.seq,
+            change.csn.rid,
+            change.csn.sub,
+        );
         self.log.reserve(alloc, 1)?;
         let heads = raised(alloc, &self.heads, change.csn)?;
-        show(
-            alloc,
-            &self.suffix,
-            &self.log,
-            &mut self.view,
-            &mut self.grows,
-            &change,
-        )?;
+        tree_laws();
+        let plan = self.view.plan(alloc, &change)?;
+        self.view.install(plan);
         self.heads = heads;
         self.generator.raise(change.csn);
         self.log.append(change);

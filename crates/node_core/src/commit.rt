@@ -17,13 +17,13 @@ use crate::apply::{needed, raised};
 use crate::fault::CommitFault;
 use crate::laws::judge_laws;
 use crate::node::{NodeState, draw};
-use crate::shown::show;
 use crate::ticket::{Receipt, Ticket};
 use ldap_rules::{JudgeFault, Judged, judge};
 use ldap_types::{Identity, Request};
 use pending_core::{Generator, PendingList};
 use repl_data::{Body, Change, Csn, NoMemory, Uid};
 use std::alloc::Global;
+use urp_tree::tree_laws;
 
 /// The entry that a write changes: that of its own CSN, where it is an add.
 fn target_at(target: Option<Uid>, csn: Csn) -> Uid
@@ -71,17 +71,19 @@ impl NodeState {
         ensures ok { OnOk result (self.new ≡ takes (with_csn self.old old change.csn) change) }
         ensures err { OnErr result (self.new ≡ self.old) }
     {
+        // For the prover alone: numbers that are read are known to be within their range.
+        let _numbers = (
+            change.csn.time,
+            change.csn.seq,
+            change.csn.rid,
+            change.csn.sub,
+        );
         self.log.reserve(alloc, 1)?;
         let heads = raised(alloc, &self.heads, change.csn)?;
-        show(
-            alloc,
-            &self.suffix,
-            &self.log,
-            &mut self.view,
-            &mut self.grows,
-            &change,
-        )?;
+        tree_laws();
+        let plan = self.view.plan(alloc, &change)?;
         redraw(&mut self.pending, &mut self.generator, old, change.csn);
+        self.view.install(plan);
         self.heads = heads;
         self.log.append(change);
         Ok(())
@@ -128,7 +130,8 @@ impl NodeState {
         ensures sound { (target : Option Uid) (body : Body) → verdict_at judge_view self.now request.now bound ≡ Writes target body → IsSoundWrite self.now.taken target body }
     {
         judge_laws();
-        judge(alloc, &self.view, request, bound)
+        self.laws();
+        judge(alloc, self.view(), request, bound)
     }
 
     /// Carries out a write under a ticket, at the time `now` in seconds since 1970. Where it is

@@ -2,9 +2,11 @@
 
 ghost use Rattle.std.specs.Prelude.{◌≡◌, ◌≢◌, ◌<◌, length, Ok, Err, Some, None, option_map, IfOk, MatchOption};
 ghost use Rattle.repl_data.specs.Order.{bytes_eq};
-ghost use Rattle.repl_data.specs.View.{view_of, dump_of};
 ghost use Rattle.vector_core.specs.Greatest.{greatest, later_of};
 ghost use Rattle.pending_core.specs.Draw.{draw};
+ghost use Rattle.std.specs.List.{AllByRecursion};
+ghost use Rattle.repl_data.specs.declared.change.Change.{Change};
+ghost use Rattle.repl_data.specs.Text.{IsInRange};
 ghost use Rattle.repl_data.specs.Closed.{IsArrival, IsClosed};
 ghost use Rattle.node_core.specs.Node.{new_node, front};
 ghost use Rattle.node_core.specs.Sound.{IsSoundNode, IsOwnEntry};
@@ -15,10 +17,10 @@ use crate::fault::BeginFault;
 use crate::ticket::{Receipt, Ticket};
 use change_log::ChangeLog;
 use pending_core::{Generator, PLACES, PendingList};
-use plain_view::PlainView;
-use repl_data::{Change, Csn, NoMemory, ShownEntryList, Suffix};
+use repl_data::{Change, Csn, NoMemory, Suffix};
 use std::alloc::{AllocError, Global};
 use std::marker::Model;
+use urp_tree::UrpTree;
 use vector_core::{AcquireFault, Start, Vector};
 
 /// How far a time of another node may be ahead, in seconds.
@@ -38,10 +40,8 @@ pub struct NodeState {
     pub(crate) generator: Generator,
     pub(crate) holder: Option<u16>,
     pub(crate) life: u64,
-    /// The view of the log.
-    pub(crate) view: PlainView,
-    /// The log has adds alone, each after what it needs: its view can grow by one add.
-    pub(crate) grows: bool,
+    /// The view of the log, kept up change by change.
+    pub(crate) view: UrpTree,
 }
 
 impl Model for NodeState {
@@ -52,7 +52,7 @@ impl Model for NodeState {
 
     ghost view = { λ s. record { suffix = s.suffix; rid = s.rid; taken = s.log.changes; pending = s.pending; last = s.generator; holder = s.holder; life = s.life } };
 
-    ghost invariant = { λ s. IsKept (record { suffix = s.suffix; rid = s.rid; taken = s.log.changes; pending = s.pending; last = s.generator; holder = s.holder; life = s.life }) s.heads × IsShown s.suffix s.log.changes s.view s.grows };
+    ghost invariant = { λ s. IsKept (record { suffix = s.suffix; rid = s.rid; taken = s.log.changes; pending = s.pending; last = s.generator; holder = s.holder; life = s.life }) s.heads × IsShown s.suffix s.log.changes s.view };
 }
 
 impl NodeState {
@@ -62,7 +62,7 @@ impl NodeState {
         requires to_65534 { rid < 65535 }
         ensures { IfOk result (λ n. n ≡ new_node suffix.now rid) }
     {
-        let view = PlainView::new(alloc, suffix)?;
+        let view = UrpTree::new(alloc, suffix)?;
         Ok(NodeState {
             suffix: copied_suffix(suffix)?,
             rid,
@@ -73,7 +73,6 @@ impl NodeState {
             holder: None,
             life: 1,
             view,
-            grows: true,
         })
     }
 
@@ -87,6 +86,9 @@ impl NodeState {
 
         // So it is a closed set.
         ensures closed { IsClosed self.now.taken }
+
+        // Their CSNs are within their 80 bits.
+        ensures within { AllByRecursion (λ (c : Change). IsInRange c.csn) self.now.taken }
 
         // The own entry of its vector is its greatest change that has no pending CSN at or below it.
         ensures own_entry { IsOwnEntry self.now (front self.now self.now.rid) }
@@ -119,22 +121,6 @@ impl NodeState {
         ensures { result.now ≡ self.now.taken }
     {
         self.log.changes()
-    }
-
-    /// The view of the changes that the node has taken.
-    pub fn view(&self) -> &PlainView
-        ensures { result.now ≡ view_of self.now.suffix self.now.taken }
-    {
-        &self.view
-    }
-
-    /// The present entries as they show, parents first and siblings in order of shown relative name.
-    /// Takes time in proportion to the square of the entries.
-    pub fn dump(&self, alloc: Global) -> Result<ShownEntryList, NoMemory>
-        ensures { IfOk result (λ entries. entries ≡ dump_of (view_of self.now.suffix self.now.taken)) }
-    {
-        let shown = self.view();
-        shown.dump(alloc)
     }
 
     /// How many CSNs are pending.
