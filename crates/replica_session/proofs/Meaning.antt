@@ -22,20 +22,20 @@ Means w n r Bound = (w ≡ awaited.Bind) × IsAccepted w r
 Means w n r (Started vector) = (w ≡ awaited.Start) × IsAccepted w r × (started_of r ≡ Ok vector)
 Means w n r (Taken next) = (id : ℕ) × (k : Kind) × (w ≡ awaited.Update id k) × IsAccepted w r × (next ≡ next_id id)
 
-none_fits : (b : Bool) → (if b then None {A = LdapResult} else None) ≡ None
-none_fits true = refl
-none_fits false = refl
+none_fits : (b : Bool) (x : Option LdapResult) → x ≡ None → (if b then x else None) ≡ None
+none_fits true x e = e
+none_fits false x e = refl
 
 start_means : (n : ℕ) (r : Reply) (x : Result (List Csn) WireFault) → started_of r ≡ x → IsAccepted awaited.Start r → Means awaited.Start n r (started_with x)
-start_means n r (Ok vector) e yes = (refl, yes, e)
-start_means n r (Err fault) e yes = inr (refl, yes, fault, e)
+start_means n r (Ok vector) e took = (refl, took, e)
+start_means n r (Err fault) e took = inr (refl, took, (fault, e))
 
 accepted_means : (w : Awaited) (n : ℕ) (r : Reply) → IsAccepted w r → Means w n r (accepted w n r)
-accepted_means awaited.Nothing n r yes = inl (none_fits (r.id == 0))
-accepted_means awaited.Bind n r yes = (refl, yes)
-accepted_means awaited.Start n r yes = start_means n r (started_of r) refl yes
-accepted_means (awaited.Update id k) n r yes = (id, k, refl, yes, refl)
-accepted_means (awaited.End id) n r yes = (id, refl, yes, refl)
+accepted_means awaited.Nothing n r took = inl (none_fits (r.id == 0) None refl)
+accepted_means awaited.Bind n r took = (refl, took)
+accepted_means awaited.Start n r took = start_means n r (started_of r) refl took
+accepted_means (awaited.Update id k) n r took = (id, k, refl, took, refl)
+accepted_means (awaited.End id) n r took = (id, refl, took, refl)
 
 code_means : (w : Awaited) (n : ℕ) (r : Reply) (answer : LdapResult) (b : Bool) → fitting w r ≡ Some answer → (answer.code.number == 0) ≡ b
     → Means w n r (if b then accepted w n r else Over (Refused answer n))
@@ -43,7 +43,7 @@ code_means w n r answer true fits e = accepted_means w n r (answer, fits, eqb-tr
 code_means w n r answer false fits e = ((fits, λ z. not_zero z), refl)
   where
     not_zero : answer.code.number ≡ 0 → ⊥
-    not_zero z = elim (sym e ∙ ap (λ (k : ℕ). k == 0) z) [ ]
+    not_zero z = let f : false ≡ true = sym e ∙ ap (λ (k : ℕ). k == 0) z in absurd cc
 
 fit_means : (w : Awaited) (n : ℕ) (r : Reply) (x : Option LdapResult) → fitting w r ≡ x → Means w n r (heard_with w n r x)
 fit_means w n r (Some answer) e = code_means w n r answer (answer.code.number == 0) e refl

@@ -6,7 +6,8 @@ use Rattle.ldap_types.specs.declared.reply.Reply.{Reply}
 use Rattle.vector_core.specs.declared.answers.Offer.{Offer}
 use Rattle.vector_core.specs.declared.answers.Offer.TheVariants as offered
 use Rattle.repl_wire.specs.Reading.{started_of}
-use Rattle.repl_wire.specs.Form.{start_bytes}
+use Rattle.repl_wire.specs.Form.{start_bytes, end_bytes}
+use Rattle.repl_wire.specs.UpdateForm.{update_bytes}
 use Rattle.replica_session.specs.declared.supplier.SessionEnd.{SessionEnd}
 use Rattle.replica_session.specs.declared.supplier.SupplyStep.{SupplyStep}
 use Rattle.replica_session.specs.declared.supplier.SupplyStep.TheVariants.{Send, Ended}
@@ -26,19 +27,19 @@ use Rattle.replica_session.proofs.Meaning.{Means, means}
 from_bind : {S : Type 0} (c : Supplying S) (s : Supplier) (supply a b : S) (rs : List Reply) (ms : List (List ℕ)) (w : Awaited) (n : ℕ) (cursor front : List Csn) (r : Reply)
     → Stands c s supply rs ms w n cursor a → w ≡ awaited.Bind → IsAccepted w r → c.fronts a (Ok front) b
     → Stands c s supply (rs ++ r ∷ []) (ms ++ start_message s front ∷ []) awaited.Start n cursor b
-from_bind c s supply a b rs ms w n cursor front r (Stands.bound k) e yes told = Stands.started r front k b yes told
-from_bind c s supply a b rs ms w n cursor front r (Stands.started q f k x y t) e yes told = elim e [ ]
-from_bind c s supply a b rs ms w n cursor front r (Stands.sends rs' ms' us n' id k raised x y u taken offer past) e yes told = elim e [ ]
-from_bind c s supply a b rs ms w n cursor front r (Stands.ends rs' ms' us n' id k x y taken offer) e yes told = elim e [ ]
+from_bind c s supply a b rs ms w n cursor front r (Stands.bound k) e took told = Stands.started r front k b took told
+from_bind c s supply a b rs ms w n cursor front r (Stands.started q f k x y t) e took told = absurd cc
+from_bind c s supply a b rs ms w n cursor front r (Stands.sends rs' ms' us n' id k raised x y u taken offer past) e took told = absurd cc
+from_bind c s supply a b rs ms w n cursor front r (Stands.ends rs' ms' us n' id k x y taken offer) e took told = absurd cc
 
 -- the start was accepted
 from_start : {S : Type 0} (c : Supplying S) (s : Supplier) (supply a : S) (rs : List Reply) (ms : List (List ℕ)) (w : Awaited) (n : ℕ) (cursor vector : List Csn) (r : Reply)
     → Stands c s supply rs ms w n cursor a → w ≡ awaited.Start → IsAccepted w r → started_of r ≡ Ok vector
     → AreTaken c s supply (rs ++ r ∷ []) ms [] 0 3 vector a
-from_start c s supply a rs ms w n cursor vector r (Stands.started q f k x y t) e yes read = AreTaken.none q r f vector x y t yes read
-from_start c s supply a rs ms w n cursor vector r (Stands.bound k) e yes read = elim e [ ]
-from_start c s supply a rs ms w n cursor vector r (Stands.sends rs' ms' us n' id k raised x y u taken offer past) e yes read = elim e [ ]
-from_start c s supply a rs ms w n cursor vector r (Stands.ends rs' ms' us n' id k x y taken offer) e yes read = elim e [ ]
+from_start c s supply a rs ms w n cursor vector r (Stands.started q f k x y t) e took read = AreTaken.none q r f vector x y t took read
+from_start c s supply a rs ms w n cursor vector r (Stands.bound k) e took read = absurd cc
+from_start c s supply a rs ms w n cursor vector r (Stands.sends rs' ms' us n' id k raised x y u taken offer past) e took read = absurd cc
+from_start c s supply a rs ms w n cursor vector r (Stands.ends rs' ms' us n' id k x y taken offer) e took read = absurd cc
 
 id_of : Awaited → ℕ
 id_of (awaited.Update id k) = id
@@ -48,12 +49,13 @@ id_of other = 0
 from_update : {S : Type 0} (c : Supplying S) (s : Supplier) (supply a : S) (rs : List Reply) (ms : List (List ℕ)) (w : Awaited) (n : ℕ) (cursor : List Csn) (r : Reply) (i : ℕ) (q : Kind)
     → Stands c s supply rs ms w n cursor a → w ≡ awaited.Update i q → IsAccepted w r
     → (us : List Update) × AreTaken c s supply (rs ++ r ∷ []) ms us (one_more n) (next_id i) cursor a
-from_update {S} c s supply a rs ms w n cursor r i q (Stands.sends rs' ms' us n' id k raised x y u taken offer past) e yes =
-    let more = AreTaken.more rs' ms' us n' id k raised x y u r taken offer past yes in
-    (us ++ u ∷ [], subst (λ (j : ℕ). AreTaken c s supply (rs' ++ r ∷ []) _ (us ++ u ∷ []) (one_more n') (next_id j) raised y) (ap id_of e) more)
-from_update c s supply a rs ms w n cursor r i q (Stands.bound k) e yes = elim e [ ]
-from_update c s supply a rs ms w n cursor r i q (Stands.started z f k x y t) e yes = elim e [ ]
-from_update c s supply a rs ms w n cursor r i q (Stands.ends rs' ms' us n' id k x y taken offer) e yes = elim e [ ]
+unfolding id_of
+from_update {S} c s supply a rs ms w n cursor r i q (Stands.sends rs' ms' us n' id k raised x y u taken offer past) e took =
+    let more = AreTaken.more rs' ms' us n' id k raised x y u r taken offer past took in
+    (us ++ u ∷ [], subst (λ (j : ℕ). AreTaken c s supply (rs' ++ r ∷ []) (ms' ++ update_bytes id u ∷ []) (us ++ u ∷ []) (one_more n') (next_id j) raised y) (ap id_of e) more)
+from_update c s supply a rs ms w n cursor r i q (Stands.bound k) e took = absurd cc
+from_update c s supply a rs ms w n cursor r i q (Stands.started z f k x y t) e took = absurd cc
+from_update c s supply a rs ms w n cursor r i q (Stands.ends rs' ms' us n' id k x y taken offer) e took = absurd cc
 
 -- the next message goes out
 by_offer : {S : Type 0} (c : Supplying S) (s : Supplier) (supply a b : S) (rs : List Reply) (ms : List (List ℕ)) (us : List Update) (n id : ℕ) (cursor raised : List Csn) (m : List ℕ) (w : Awaited) (o : Offer)
@@ -64,7 +66,7 @@ by_offer c s supply a b rs ms us n id cursor raised m w (offered.Next u) taken o
     (Stands.sends rs ms us n id cursor raised a b u taken offer past)
 by_offer c s supply a b rs ms us n id cursor raised m w offered.Done taken offer sends past =
     subst (λ (p : List ℕ × Awaited). Stands c s supply rs (ms ++ p.0 ∷ []) p.1 n raised b) (sym sends)
-    (subst (λ (k : List Csn). Stands c s supply rs _ _ n k b) (sym past)
+    (subst (λ (k : List Csn). Stands c s supply rs (ms ++ end_bytes id (record { rid = s.rid }) ∷ []) (awaited.End id) n k b) (sym past)
     (Stands.ends rs ms us n id cursor a b taken offer))
 
 by_next : {S : Type 0} (c : Supplying S) (s : Supplier) (supply a b : S) (rs : List Reply) (ms : List (List ℕ)) (us : List Update) (n id : ℕ) (cursor raised : List Csn) (m : List ℕ) (w : Awaited)
@@ -104,7 +106,7 @@ kept_next c s supply a b rs ms us old new n id cursor m taken rid suffix sent =
 
 step : {S : Type 0} (c : Supplying S) (s : Supplier) (supply a b : S) (rs : List Reply) (ms : List (List ℕ)) (old new : Supplier) (r : Reply) (m : List ℕ) (h : Heard)
     → IsKept c s supply rs ms old a → Means old.awaited old.sent r h → HearsSo c old a h (Send m) new b → IsKept c s supply (rs ++ r ∷ []) (ms ++ m ∷ []) new b
-step c s supply a b rs ms old new r m (Over end) kept by sent = elim sent.0 [ ]
+step c s supply a b rs ms old new r m (Over end) kept by sent = let f : Send m ≡ Ended end = sent.0 in absurd cc
 step c s supply a b rs ms old new r m Bound kept by sent = kept_start c s supply a b rs ms old new r m kept by sent
 step c s supply a b rs ms old new r m (Started vector) kept by sent =
     let taken = from_start c s supply a rs ms old.awaited old.sent old.cursor vector r kept.stands by.0 by.1 by.2 in
@@ -114,14 +116,14 @@ step c s supply a b rs ms old new r m (Taken next) kept by sent =
     let taken : AreTaken c s supply (rs ++ r ∷ []) ms k.0 (one_more old.sent) next old.cursor a = subst (λ (j : ℕ). AreTaken c s supply (rs ++ r ∷ []) ms k.0 (one_more old.sent) j old.cursor a) (sym by.4) k.1 in
     kept_next c s supply a b (rs ++ r ∷ []) ms k.0 old new (one_more old.sent) next old.cursor m taken kept.rid kept.suffix sent
 
-kept : {S : Type 0} (c : Supplying S) (s new : Supplier) (supply after : S) (rs : List Reply) (ms : List (List ℕ)) → Talks c s supply rs ms new after → IsKept c s supply rs ms new after
-kept c s new supply after rs ms Talks.bound = record { stands = Stands.bound s.cursor; rid = refl; suffix = refl }
-kept c s new supply after rs ms (Talks.more rs' ms' old new' a b r m before heard_so) =
-    step c s supply a b rs' ms' old new r m (heard old.awaited old.sent r) (kept c s old supply a rs' ms' before) (means old.awaited old.sent r) heard_so
+kept : {S : Type 0} (c : Supplying S) (s : Supplier) (supply : S) (new : Supplier) (after : S) (rs : List Reply) (ms : List (List ℕ)) → Talks c s supply rs ms new after → IsKept c s supply rs ms new after
+kept c s supply new after rs ms Talks.bound = record { stands = Stands.bound s.cursor; rid = refl; suffix = refl }
+kept c s supply new after rs ms (Talks.more rs' ms' old new' a b r m before heard_so) =
+    step c s supply a b rs' ms' old new r m (heard old.awaited old.sent r) (kept c s supply old a rs' ms' before) (means old.awaited old.sent r) heard_so
 
 pub every_session_stands : {S : Type 0} (c : Supplying S) → EverySessionStands c
 every_session_stands c s new supply after rs ms talks =
-    let k = kept c s new supply after rs ms talks in
+    let k = kept c s supply new after rs ms talks in
     (k.stands, k.rid, k.suffix)
 
 -- ---- the end
@@ -136,9 +138,9 @@ ended_so c old new a b r end (Over other) by so = subst (λ (e : SessionEnd). En
 
     same_end : Ended end ≡ Ended other → end ≡ other
     same_end e = ap end_in e
-ended_so c old new a b r end Bound by so = elim so [ ]
-ended_so c old new a b r end (Started vector) by so = elim so [ ]
-ended_so c old new a b r end (Taken next) by so = elim so [ ]
+ended_so c old new a b r end Bound by so = absurd so
+ended_so c old new a b r end (Started vector) by so = absurd so
+ended_so c old new a b r end (Taken next) by so = absurd so
 
 pub every_session_ends : {S : Type 0} (c : Supplying S) → EverySessionEnds c
 every_session_ends c old new a b r end so = ended_so c old new a b r end (heard old.awaited old.sent r) (means old.awaited old.sent r) so
@@ -147,14 +149,14 @@ every_session_ends c old new a b r end so = ended_so c old new a b r end (heard 
 
 pub counts_taken : {S : Type 0} (c : Supplying S) → CountsTaken c
 counts_taken c s supply a _ _ _ _ _ _ (AreTaken.none x y z v k p q t u) = refl
-counts_taken c s supply a _ _ _ _ _ _ (AreTaken.more rs ms us n id cursor raised x y u r before offer past yes) =
+counts_taken c s supply a _ _ _ _ _ _ (AreTaken.more rs ms us n id cursor raised x y u r before offer past took) =
     let e = counts_taken c s supply x rs ms us n id cursor before in
     let len = length-append us (u ∷ []) in
     omega (arith, e, len)
 
 pub numbers_are_within : {S : Type 0} (c : Supplying S) → NumbersAreWithin c
 numbers_are_within c s supply a _ _ _ _ _ _ (AreTaken.none x y z v k p q t u) = (omega arith, omega arith)
-numbers_are_within c s supply a _ _ _ _ _ _ (AreTaken.more rs ms us n id cursor raised x y u r before offer past yes) =
+numbers_are_within c s supply a _ _ _ _ _ _ (AreTaken.more rs ms us n id cursor raised x y u r before offer past took) =
     next_within id (numbers_are_within c s supply x rs ms us n id cursor before)
   where
     chosen : (i : ℕ) (b : Bool) → nat_lt i 2147483647 ≡ b → (3 ≤ i) × (i ≤ 2147483647) → (3 ≤ (if b then i + 1 else 3)) × ((if b then i + 1 else 3) ≤ 2147483647)

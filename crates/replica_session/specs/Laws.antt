@@ -1,10 +1,14 @@
 -- What a whole session is, from the bind on.
-use Rattle.std.specs.Prelude.{◌≡◌, ◌≢◌, ◌≤◌, ◌⊎◌, ℕ, ◌-◌, ◌^◌, min, List, [], ◌∷◌, ◌++◌, length, Some, None, Ok, Err}
+use Rattle.std.specs.Prelude.{◌≡◌, ◌≢◌, ◌≤◌, ◌⊎◌, ℕ, ◌-◌, ◌^◌, min, List, [], ◌∷◌, ◌++◌, length, Some, None, Result, Ok, Err}
 use Rattle.repl_data.specs.declared.csn.Csn.{Csn}
 use Rattle.repl_data.specs.declared.change.Update.{Update}
 use Rattle.ldap_types.specs.declared.reply.Reply.{Reply}
 use Rattle.ldap_types.specs.declared.reply.LdapResult.{LdapResult}
 use Rattle.vector_core.specs.declared.answers.Offer.TheVariants as offered
+use Rattle.vector_core.specs.declared.answers.Applied.{Applied}
+use Rattle.vector_core.specs.declared.answers.ApplyFault.{ApplyFault}
+use Rattle.vector_core.specs.declared.answers.AcquireFault.{AcquireFault}
+use Rattle.ldap_requests.specs.Grammar.{request_at}
 use Rattle.vector_core.specs.Vector.{IsRaised}
 use Rattle.repl_wire.specs.declared.fault.WireFault.{WireFault}
 use Rattle.repl_wire.specs.Form.{start_bytes, end_bytes}
@@ -17,7 +21,8 @@ use Rattle.replica_session.specs.declared.supplier.Awaited.{Awaited}
 use Rattle.replica_session.specs.declared.supplier.Awaited.TheVariants as awaited
 use Rattle.replica_session.specs.declared.supplier.Supplier.{Supplier}
 use Rattle.replica_session.specs.Calls.{Supplying}
-use Rattle.replica_session.specs.Messages.{next_id}
+use Rattle.replica_session.specs.Messages.{next_id, bind_bytes, bind_request}
+use Rattle.replica_session.specs.Answers.{apply_result, acquire_result}
 use Rattle.replica_session.specs.Supplier.{kind_of, fitting, heard, HearsSo, begun, one_more}
 
 -- ---- what happens
@@ -107,3 +112,17 @@ abbrev pub NumbersAreWithin : {S : Type 0} → Supplying S → Type 0
 NumbersAreWithin {S} c =
     (s : Supplier) (supply a : S) (replies : List Reply) (sent : List (List ℕ)) (us : List Update) (n id : ℕ) (cursor : List Csn)
     → AreTaken c s supply replies sent us n id cursor a → (3 ≤ id) × (id ≤ 2147483647)
+
+-- ---- the bind, and answers with 0
+
+-- the bind is read by the reader of requests, whatever bytes follow
+abbrev pub BindIsRead : Type 0
+BindIsRead = (rest : List ℕ) → request_at 2097152 (bind_bytes ++ rest) ≡ Ok (bind_request, length bind_bytes)
+
+-- An update is answered with 0 only where the node took it, or had taken it before. A start that the node does not accept
+-- is answered with another code.
+abbrev pub ZeroIsTaken : Type 0
+ZeroIsTaken = (answer : Result Applied ApplyFault) (told : LdapResult) → apply_result answer ≡ Some told → told.code.number ≡ 0 → (applied : Applied) × (answer ≡ Ok applied)
+
+abbrev pub RefusalIsTold : Type 0
+RefusalIsTold = (fault : AcquireFault) (told : LdapResult) → acquire_result fault ≡ Some told → told.code.number ≢ 0

@@ -1,6 +1,9 @@
 -- The messages of a session that are no session messages of their own, and the numbers that all of them have.
-use Rattle.std.specs.Prelude.{ℕ, ◌+◌, nat_lt, List, ◌++◌, codes, if◌then◌else◌}
+use Rattle.std.specs.Prelude.{ℕ, ◌+◌, nat_lt, pos, List, [], ◌++◌, codes, if◌then◌else◌}
 use Rattle.ber_core.specs.Element.{element}
+use Rattle.ldap_types.specs.declared.request.Request.{Request}
+use Rattle.ldap_types.specs.declared.request.Op.TheVariants.{Bind}
+use Rattle.ldap_types.specs.declared.request.Auth.TheVariants.{Simple}
 use Rattle.repl_wire.specs.Form.{octet_string, integer}
 
 -- ---- the bind (RFC 4511, section 4.2)
@@ -17,6 +20,10 @@ bind_parts = integer 3 ++ octet_string supplier_name ++ element 0x80 supplier_pa
 
 unfoldable pub bind_bytes : List ℕ
 bind_bytes = element 0x30 (integer 1 ++ element 0x60 bind_parts)
+
+-- the request that it is
+abbrev pub bind_request : Request
+bind_request = record { id = 1; op = Bind (record { version = pos 3; name = codes "cn=supplier"; auth = Simple (codes "repl") }); controls = [] }
 
 -- ---- numbers
 

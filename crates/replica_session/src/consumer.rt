@@ -5,7 +5,7 @@ ghost use Rattle.repl_wire.specs.Keys.{HasKeysOfSpellings};
 ghost use Rattle.repl_wire.specs.Reading.{start_of, end_of};
 ghost use Rattle.repl_wire.specs.Update.{update_of};
 ghost use Rattle.replica_session.specs.Answers.{unreadable};
-ghost use Rattle.replica_session.specs.Consumer.{reply_with, is_start, is_extended, end_reply, IsAcquired, Starts, StartsSo, IsApplied, Updates, UpdatesSo, Answers, StarvesAtStart, StarvesAtUpdate, Starves};
+ghost use Rattle.replica_session.specs.Consumer.{reply_with, is_start, is_extended, end_reply, Starts, StartsSo, Updates, UpdatesSo, Answers, StarvesAtStart, StarvesAtUpdate, Starves};
 
 use crate::answers::{acquire_result, apply_result, not_holder, plain, unreadable};
 use crate::refusal::reply_with;

@@ -1,6 +1,6 @@
 //! The supplier's side of a session.
 
-ghost use Rattle.std.specs.Prelude.{◌≡◌, ◌==◌, ◌-◌, ◌^◌, ◌+◌, min, IfOk, OnOk, OnErr, Ok, Err};
+ghost use Rattle.std.specs.Prelude.{◌≡◌, [], IfOk, OnOk, OnErr};
 ghost use Rattle.std.specs.Option.{option_copied};
 ghost use Rattle.replica_session.specs.Calls.{Supplying};
 ghost use Rattle.replica_session.specs.Messages.{bind_bytes};
