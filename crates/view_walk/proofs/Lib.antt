@@ -1,0 +1,11 @@
+pub mod Members
+pub mod Rising
+pub mod Lineage
+pub mod Within
+pub mod Keys
+pub mod Orders
+pub mod Children
+pub mod Subtrees
+pub mod Closed
+pub mod Steps
+pub mod Stacks

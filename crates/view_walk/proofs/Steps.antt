@@ -1,0 +1,89 @@
+-- One step of a walk, and what a listing has of it.
+use Rattle.std.proofs.Common.{◌≡◌, ℕ, ◌+◌, ◌<◌, length, get_or, drop, suc, List, [], ◌∷◌, ◌++◌, map, refl, sym, ap, subst, ◌∙◌, inl, inr, append-nil, append_assoc}
+use Rattle.std.specs.Prelude.{Bool, true, false, cond, ◌⊎◌, filter, flat_map, find, reverse, Option, Some, None, option_map}
+use Rattle.std.specs.List.{AllByRecursion}
+use Rattle.std.specs.Option.{option_to_list}
+use Rattle.std.specs.declared.cmp.Ordering.TheVariants.{Less}
+use Rattle.std.specs.Ordering.{is_eq}
+use Rattle.repl_data.specs.declared.csn.Uid.{Uid}
+use Rattle.repl_data.specs.declared.change.ShownEntry.{ShownEntry}
+use Rattle.repl_data.specs.Order.{uid_cmp, uid_eq, suffix_id}
+use Rattle.repl_data.specs.View.{DirectoryView, PresentEntry, children_of, present_at, present_shown, entry_of, path_key, path_key_cmp, in_path_order, dump_of}
+use Rattle.repl_data.proofs.Steps.{flat_map-append}
+use Rattle.view_walk.specs.Tree.{IsAmong, AreRising, IsNamedTree, is_present}
+use Rattle.view_walk.specs.Walk.{subtree, left, entries_of, ArePresent}
+use Rattle.view_walk.proofs.Members.{one_of, each_of, of_in_order}
+use Rattle.view_walk.proofs.Rising.{all_join}
+use Rattle.view_walk.proofs.Lineage.{own_eq}
+use Rattle.view_walk.proofs.Children.{children_present}
+use Rattle.view_walk.proofs.Subtrees.{subtree_step, subtree_whole}
+use Rattle.view_walk.proofs.Stacks.{top}
+
+-- an entry is found by its id
+find_own : (es : List PresentEntry) (e : PresentEntry) → AreRising es → IsAmong e es → find (λ (f : PresentEntry). uid_eq f.id e.id) es ≡ Some e
+find_own [] e r m = elim m [ ]
+find_own (d ∷ es) e r (inl same) =
+    ap (λ b. cond b (Some d) (find (λ (f : PresentEntry). uid_eq f.id e.id) es)) (ap (λ (x : PresentEntry). uid_eq x.id e.id) (sym same) ∙ own_eq e.id)
+    ∙ ap Some (sym same)
+find_own (d ∷ es) e r (inr m) =
+    ap (λ b. cond b (Some d) (find (λ (f : PresentEntry). uid_eq f.id e.id) es)) (ap is_eq (one_of (λ (f : PresentEntry). uid_cmp d.id f.id ≡ Less) e es m r.0))
+    ∙ find_own es e r.1 m
+
+module _ (v : DirectoryView) (t : IsNamedTree v) where
+  shown_own : (e : PresentEntry) → IsAmong e v.present → option_to_list (entry_of v e.id) ≡ present_shown v e ∷ []
+  shown_own e m = ap (λ (o : Option PresentEntry). option_to_list (option_map (present_shown v) o)) (find_own v.present e t.rising m)
+
+  each_shown : (es : List PresentEntry) → ((e : PresentEntry) → IsAmong e es → IsAmong e v.present) → entries_of v (map (λ (e : PresentEntry). e.id) es) ≡ map (present_shown v) es
+  each_shown [] f = refl
+  each_shown (e ∷ es) f = (λ i. shown_own e (f e (inl refl)) i ++ entries_of v (map (λ (e : PresentEntry). e.id) es)) ∙ ap (λ r. present_shown v e ∷ r) (each_shown es (λ d m. f d (inr m)))
+
+  -- A LISTING: the entries of all that is left of a walk from the suffix entry
+  pub listed_whole : entries_of v (left v (suffix_id ∷ [])) ≡ dump_of v
+  listed_whole =
+      ap (entries_of v) (append-nil (subtree v suffix_id) ∙ subtree_whole v t)
+      ∙ each_shown (in_path_order v) (λ e m. of_in_order path_key_cmp (path_key v) e v.present m)
+
+  pub left_step : (u : Uid) (rest : List Uid) → is_present v u ≡ true → left v (u ∷ rest) ≡ u ∷ left v (children_of v u ++ rest)
+  left_step u rest there =
+      ap (λ us. us ++ left v rest) (subtree_step v t u there)
+      ∙ ap (λ us. u ∷ us) (sym (flat_map-append (subtree v) (children_of v u) rest))
+
+  pub present_step : (u : Uid) (rest : List Uid) → ArePresent v rest → ArePresent v (children_of v u ++ rest)
+  present_step u rest h = all_join (λ (w : Uid). is_present v w ≡ true) (children_of v u) rest (children_present v t u) h
+
+  -- ---- on the stack, of which the last id is the next one
+  module _ (ids new children : List Uid) (last : ℕ) (u : Uid) (old : List Uid)
+      (seen : reverse ids ≡ old) (long : last + 1 ≡ length ids) (at : u ≡ get_or ids last u)
+      (below : children ≡ children_of v u) (put : reverse new ≡ children ++ drop 1 (reverse ids)) (there : ArePresent v old) where
+    old_is : old ≡ u ∷ drop 1 (reverse ids)
+    old_is = sym seen ∙ top ids last u long at
+
+    new_is : reverse new ≡ children_of v u ++ drop 1 (reverse ids)
+    new_is = put ∙ ap (λ (cs : List Uid). cs ++ drop 1 (reverse ids)) below
+
+    all_there : ArePresent v (u ∷ drop 1 (reverse ids))
+    all_there = subst (ArePresent v) old_is there
+
+    pub walked : left v old ≡ u ∷ left v (reverse new)
+    walked =
+        ap (left v) old_is
+        ∙ left_step u (drop 1 (reverse ids)) all_there.0
+        ∙ ap (λ (us : List Uid). u ∷ left v us) (sym new_is)
+
+    pub walked_there : ArePresent v (reverse new)
+    walked_there = subst (ArePresent v) (sym new_is) (present_step u (drop 1 (reverse ids)) all_there.1)
+
+  -- ---- of what a listing has and what is left of its walk
+  pub listed_step : (entries new : List ShownEntry) (old next : List Uid) (u : Uid) → entries ++ entries_of v (left v old) ≡ dump_of v → left v old ≡ u ∷ left v next
+      → new ≡ entries ++ option_to_list (entry_of v u) → new ++ entries_of v (left v next) ≡ dump_of v
+  listed_step entries new old next u was step put =
+      ap (λ (es : List ShownEntry). es ++ entries_of v (left v next)) put
+      ∙ append_assoc entries (option_to_list (entry_of v u)) (entries_of v (left v next))
+      ∙ ap (λ (us : List Uid). entries ++ entries_of v us) (sym step)
+      ∙ was
+
+  pub listed_end : (entries : List ShownEntry) (old : List Uid) → entries ++ entries_of v (left v old) ≡ dump_of v → left v old ≡ [] → entries ≡ dump_of v
+  listed_end entries old was none = sym (append-nil entries) ∙ ap (λ (us : List Uid). entries ++ entries_of v us) (sym none) ∙ was
+
+  pub shorter : (old next : List Uid) (u : Uid) → left v old ≡ u ∷ left v next → length (left v next) < length (left v old)
+  shorter old next u step = let e : length (left v old) ≡ suc (length (left v next)) = ap length step in omega arith
