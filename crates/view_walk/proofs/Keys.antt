@@ -66,10 +66,9 @@ module _ (v : DirectoryView) (t : IsNamedTree v) where
   pub child_keys : (base : Uid) (c : PresentEntry) → IsChild v t base c → (u : Uid) → is_within v c.id u ≡ true → (rest : Keys) × (keys v u ≡ keys v base ++ rdn_key c.shown ∷ rest)
   child_keys base c k u h =
       let f = child_facts v t base c k in
-      let g = within_keys c.id u h in
-      (
+      let g = within_keys c.id u h in (
         g.rest,
         g.is
-        ∙ ap (λ (ks : Keys). ks ++ g.rest) (keys_step c k.among f.1 ∙ ap (λ (w : Uid). keys v w ++ rdn_key c.shown ∷ []) f.0)
-        ∙ append_assoc (keys v base) (rdn_key c.shown ∷ []) g.rest
+            ∙ ap (λ (ks : Keys). ks ++ g.rest) (keys_step c k.among f.1 ∙ ap (λ (w : Uid). keys v w ++ rdn_key c.shown ∷ []) f.0)
+            ∙ append_assoc (keys v base) (rdn_key c.shown ∷ []) g.rest,
       )

@@ -1,5 +1,5 @@
 -- One step of a walk, and what a listing has of it.
-use Rattle.std.proofs.Common.{◌≡◌, ℕ, ◌+◌, ◌<◌, length, get_or, drop, suc, List, [], ◌∷◌, ◌++◌, map, refl, sym, ap, subst, ◌∙◌, inl, inr, append-nil, append_assoc}
+use Rattle.std.proofs.Common.{◌≡◌, ℕ, ◌+◌, length, get_or, drop, List, [], ◌∷◌, ◌++◌, map, refl, sym, ap, subst, ◌∙◌, inl, inr, append-nil, append_assoc}
 use Rattle.std.specs.Prelude.{Bool, true, false, cond, ◌⊎◌, filter, flat_map, find, reverse, Option, Some, None, option_map}
 use Rattle.std.specs.List.{AllByRecursion}
 use Rattle.std.specs.Option.{option_to_list}
@@ -73,17 +73,13 @@ module _ (v : DirectoryView) (t : IsNamedTree v) where
     pub walked_there : ArePresent v (reverse new)
     walked_there = subst (ArePresent v) (sym new_is) (present_step u (drop 1 (reverse ids)) all_there.1)
 
-  -- ---- of what a listing has and what is left of its walk
-  pub listed_step : (entries new : List ShownEntry) (old next : List Uid) (u : Uid) → entries ++ entries_of v (left v old) ≡ dump_of v → left v old ≡ u ∷ left v next
-      → new ≡ entries ++ option_to_list (entry_of v u) → new ++ entries_of v (left v next) ≡ dump_of v
-  listed_step entries new old next u was step put =
-      ap (λ (es : List ShownEntry). es ++ entries_of v (left v next)) put
-      ∙ append_assoc entries (option_to_list (entry_of v u)) (entries_of v (left v next))
-      ∙ ap (λ (us : List Uid). entries ++ entries_of v us) (sym step)
-      ∙ was
+  -- ---- a listing begins with nothing, and a walk from the suffix entry
+  module _ (entries : List ShownEntry) (ids : List Uid) (first : Uid) (none : entries ≡ []) (from : ids ≡ first ∷ []) (root : first ≡ suffix_id) where
+    pub begun : entries ++ entries_of v (left v ids) ≡ dump_of v
+    begun =
+        (λ i. none i ++ entries_of v (left v (from i)))
+        ∙ ap (λ (u : Uid). entries_of v (left v (u ∷ []))) root
+        ∙ listed_whole
 
-  pub listed_end : (entries : List ShownEntry) (old : List Uid) → entries ++ entries_of v (left v old) ≡ dump_of v → left v old ≡ [] → entries ≡ dump_of v
-  listed_end entries old was none = sym (append-nil entries) ∙ ap (λ (us : List Uid). entries ++ entries_of v us) (sym none) ∙ was
-
-  pub shorter : (old next : List Uid) (u : Uid) → left v old ≡ u ∷ left v next → length (left v next) < length (left v old)
-  shorter old next u step = let e : length (left v old) ≡ suc (length (left v next)) = ap length step in omega arith
+    pub begun_there : ArePresent v ids
+    begun_there = subst (ArePresent v) (sym (from ∙ ap (λ (u : Uid). u ∷ []) root)) (t.root, tt)

@@ -29,10 +29,9 @@ same_path v e f h = uid_exact e.id f.id (last_equal (slice_cmp rdn_key_cmp (keys
 pub of_subtree : (v : DirectoryView) (base u : Uid) → IsAmong u (subtree v base) → (is_within v base u ≡ true) × HasEntry v.present u
 of_subtree v base u m =
     let e = of_map (λ (e : PresentEntry). e.id) u (filter (λ (e : PresentEntry). is_within v base e.id) (in_path_order v)) m in
-    let f = of_filter (λ (e : PresentEntry). is_within v base e.id) e.0 (in_path_order v) e.1 in
-    (
+    let f = of_filter (λ (e : PresentEntry). is_within v base e.id) e.0 (in_path_order v) e.1 in (
       subst (λ (w : Uid). is_within v base w ≡ true) (sym e.2) f.1,
-      record { entry = e.0; among = of_in_order path_key_cmp (path_key v) e.0 v.present f.0; own = sym e.2 }
+      record { entry = e.0; among = of_in_order path_key_cmp (path_key v) e.0 v.present f.0; own = sym e.2 },
     )
 
 pub in_subtree : (v : DirectoryView) (base u : Uid) → HasEntry v.present u → is_within v base u ≡ true → IsAmong u (subtree v base)
