@@ -1,9 +1,8 @@
 -- The view of a closed set of changes is a tree of names.
-use Rattle.std.proofs.Common.{◌≡◌, ℕ, List, [], ◌∷◌, ◌++◌, map, refl, sym, ap, subst, ◌∙◌, inl, inr}
-use Rattle.std.specs.Prelude.{Bool, true, false, cond, not, ◌&&◌, ◌||◌, ◌⊎◌, filter, flat_map}
+use Rattle.std.proofs.Common.{◌≡◌, List, [], ◌∷◌, ◌++◌, refl, sym, ap, subst, ◌∙◌, inl, inr}
+use Rattle.std.specs.Prelude.{Bool, true, false, cond, not, ◌&&◌, ◌||◌, flat_map}
 use Rattle.std.specs.List.{AllByRecursion, list_any, list_all}
 use Rattle.std.specs.declared.cmp.Ordering.TheVariants.{Less}
-use Rattle.std.proofs.lemmas.Cmp.{tied_itself}
 use Rattle.repl_data.specs.declared.csn.Csn.{Csn}
 use Rattle.repl_data.specs.declared.csn.Uid.{Uid}
 use Rattle.repl_data.specs.declared.change.Body.{Body}
@@ -18,9 +17,7 @@ use Rattle.repl_data.specs.Stamps.{of_entry}
 use Rattle.repl_data.specs.Facts.{EntryFacts, entry_facts, parents_given, deaths, added_ids, ids_known, all_facts}
 use Rattle.repl_data.specs.Closed.{IsClosed, is_sound, is_known, is_rooted}
 use Rattle.repl_data.specs.Presence.{is_live, is_child, present_of, is_among_entries, is_present_in, StandsIn, HasParentBelow}
-use Rattle.repl_data.specs.Names.{shown_rdn}
-use Rattle.repl_data.specs.View.{DirectoryView, PresentEntry, view_of, is_shown_below}
-use Rattle.repl_data.proofs.Orders.{uid_total}
+use Rattle.repl_data.specs.View.{PresentEntry, view_of, is_shown_below}
 use Rattle.repl_data.proofs.Sound.{both_true, no_fault, no_faults}
 use Rattle.repl_data.proofs.Known.{any_map, known_ids, present_entry}
 use Rattle.repl_data.proofs.ClosedLaws.{all_facts-Rises, all_facts-below, closed_presence}

@@ -1,6 +1,6 @@
 -- The entries above an entry: those above its parent, and then itself.
 use Rattle.std.proofs.Common.{◌≡◌, List, [], ◌∷◌, ◌++◌, map, refl, sym, ap, subst, ◌∙◌, inl, inr}
-use Rattle.std.specs.Prelude.{Bool, true, false, cond, not, ◌&&◌, ◌||◌, ◌⊎◌, reverse}
+use Rattle.std.specs.Prelude.{Bool, true, false, cond, not, ◌&&◌, ◌||◌, reverse}
 use Rattle.std.specs.List.{AllByRecursion, list_any}
 use Rattle.std.specs.declared.cmp.Ordering.TheVariants.{Less}
 use Rattle.std.specs.Ordering.{is_eq, ordering_reverse}
@@ -8,12 +8,11 @@ use Rattle.std.proofs.lemmas.Cmp.{tied_itself}
 use Rattle.repl_data.specs.declared.csn.Uid.{Uid}
 use Rattle.repl_data.specs.declared.change.Rdn.{Rdn}
 use Rattle.repl_data.specs.Order.{uid_cmp, uid_eq, suffix_id}
-use Rattle.repl_data.specs.View.{DirectoryView, PresentEntry, path_among, path_of}
+use Rattle.repl_data.specs.View.{DirectoryView, PresentEntry, path_among}
 use Rattle.repl_data.proofs.Orders.{uid_total, uid_exact}
 use Rattle.repl_data.proofs.InOrder.{is_equal}
 use Rattle.repl_data.proofs.ClosedLaws.{no_csn_below}
-use Rattle.repl_data.proofs.Loops.{map_append}
-use Rattle.view_walk.specs.Tree.{IsAmong, AreRising, HasParentBelow, is_present, IsNamedTree}
+use Rattle.view_walk.specs.Tree.{IsAmong, HasParentBelow, is_present, IsNamedTree}
 use Rattle.view_walk.specs.Walk.{lineage_among}
 use Rattle.view_walk.proofs.Members.{never, of_reverse, in_reverse, one_of, each_of}
 use Rattle.view_walk.proofs.Rising.{Rise, rise_reverse}

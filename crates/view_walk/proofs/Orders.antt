@@ -1,6 +1,6 @@
 -- The order of a listing: a base is before all below it, and all within one child before all within a later one.
-use Rattle.std.proofs.Common.{◌≡◌, ℕ, List, [], ◌∷◌, ◌++◌, refl, sym, ap, subst, ◌∙◌}
-use Rattle.std.specs.Prelude.{Bool, true, false}
+use Rattle.std.proofs.Common.{◌≡◌, ℕ, List, [], ◌∷◌, ◌++◌, refl, sym, ap, ◌∙◌}
+use Rattle.std.specs.Prelude.{true}
 use Rattle.std.specs.Cmp.{IsTotalOrder}
 use Rattle.std.specs.Cmp.Lexicographic.{slice_cmp}
 use Rattle.std.specs.declared.cmp.Ordering.{Ordering}
@@ -10,7 +10,7 @@ use Rattle.std.proofs.lemmas.Cmp.{tied_itself, then_total, on_total, lists_total
 use Rattle.repl_data.specs.declared.csn.Uid.{Uid}
 use Rattle.repl_data.specs.Order.{uid_cmp, rdn_key, rdn_key_cmp}
 use Rattle.repl_data.specs.View.{DirectoryView, PresentEntry, path_key_cmp, shown_key_cmp}
-use Rattle.repl_data.proofs.Orders.{uid_total, uid_exact, rdn_key_total}
+use Rattle.repl_data.proofs.Orders.{uid_total, rdn_key_total}
 use Rattle.view_walk.specs.Tree.{IsNamedTree}
 use Rattle.view_walk.specs.Walk.{is_within}
 use Rattle.view_walk.proofs.Within.{is_under, IsChild}

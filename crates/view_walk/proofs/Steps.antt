@@ -1,18 +1,17 @@
 -- One step of a walk, and what a listing has of it.
-use Rattle.std.proofs.Common.{◌≡◌, ℕ, ◌+◌, length, get_or, drop, List, [], ◌∷◌, ◌++◌, map, refl, sym, ap, subst, ◌∙◌, inl, inr, append-nil, append_assoc}
-use Rattle.std.specs.Prelude.{Bool, true, false, cond, ◌⊎◌, filter, flat_map, find, reverse, Option, Some, None, option_map}
-use Rattle.std.specs.List.{AllByRecursion}
+use Rattle.std.proofs.Common.{◌≡◌, ℕ, ◌+◌, length, get_or, drop, List, [], ◌∷◌, ◌++◌, map, refl, sym, ap, subst, ◌∙◌, inl, inr, append-nil}
+use Rattle.std.specs.Prelude.{true, cond, find, reverse, Option, Some, option_map}
 use Rattle.std.specs.Option.{option_to_list}
 use Rattle.std.specs.declared.cmp.Ordering.TheVariants.{Less}
 use Rattle.std.specs.Ordering.{is_eq}
 use Rattle.repl_data.specs.declared.csn.Uid.{Uid}
 use Rattle.repl_data.specs.declared.change.ShownEntry.{ShownEntry}
 use Rattle.repl_data.specs.Order.{uid_cmp, uid_eq, suffix_id}
-use Rattle.repl_data.specs.View.{DirectoryView, PresentEntry, children_of, present_at, present_shown, entry_of, path_key, path_key_cmp, in_path_order, dump_of}
+use Rattle.repl_data.specs.View.{DirectoryView, PresentEntry, children_of, present_shown, entry_of, path_key, path_key_cmp, in_path_order, dump_of}
 use Rattle.repl_data.proofs.Steps.{flat_map-append}
 use Rattle.view_walk.specs.Tree.{IsAmong, AreRising, IsNamedTree, is_present}
 use Rattle.view_walk.specs.Walk.{subtree, left, entries_of, ArePresent}
-use Rattle.view_walk.proofs.Members.{one_of, each_of, of_in_order}
+use Rattle.view_walk.proofs.Members.{one_of, of_in_order}
 use Rattle.view_walk.proofs.Rising.{all_join}
 use Rattle.view_walk.proofs.Lineage.{own_eq}
 use Rattle.view_walk.proofs.Children.{children_present}

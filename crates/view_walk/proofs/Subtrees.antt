@@ -1,22 +1,21 @@
 -- WITHIN AN ENTRY STAND IT, AND THEN ALL WITHIN ITS CHILDREN, child by child. Both sides rise in the order of a
 -- listing, and have the same items.
-use Rattle.std.proofs.Common.{◌≡◌, ℕ, List, [], ◌∷◌, ◌++◌, map, refl, sym, ap, subst, ◌∙◌, inl, inr}
-use Rattle.std.specs.Prelude.{Bool, true, false, cond, ◌⊎◌, filter, flat_map}
+use Rattle.std.proofs.Common.{◌≡◌, List, [], ◌∷◌, ◌++◌, map, refl, sym, ap, subst, ◌∙◌, inl, inr}
+use Rattle.std.specs.Prelude.{Bool, true, cond, filter, flat_map}
 use Rattle.std.specs.List.{AllByRecursion}
-use Rattle.std.specs.declared.cmp.Ordering.{Ordering}
-use Rattle.std.specs.declared.cmp.Ordering.TheVariants.{Less, Equal, Greater}
+use Rattle.std.specs.declared.cmp.Ordering.TheVariants.{Less, Equal}
 use Rattle.std.specs.Cmp.Lexicographic.{slice_cmp}
 use Rattle.repl_data.specs.declared.csn.Uid.{Uid}
-use Rattle.repl_data.specs.Order.{uid_cmp, uid_eq, suffix_id, rdn_key_cmp, in_order_by}
+use Rattle.repl_data.specs.Order.{uid_cmp, uid_eq, suffix_id, rdn_key_cmp}
 use Rattle.repl_data.specs.View.{DirectoryView, PresentEntry, children_of, path_key, path_key_cmp, in_path_order}
 use Rattle.repl_data.proofs.Orders.{uid_exact}
 use Rattle.repl_data.proofs.InOrder.{in_order_by-Rises}
 use Rattle.view_walk.specs.Tree.{IsAmong, IsNamedTree, is_present}
 use Rattle.view_walk.specs.Walk.{is_within, subtree}
-use Rattle.view_walk.proofs.Members.{in_filter, of_filter, in_map, of_map, in_flat, of_flat, each_of, one_of, of_in_order, in_in_order}
+use Rattle.view_walk.proofs.Members.{in_filter, of_filter, in_map, of_map, in_flat, of_flat, each_of, of_in_order, in_in_order}
 use Rattle.view_walk.proofs.Rising.{Rise, rise_filter, rise_map, rise_flat, same_list}
 use Rattle.view_walk.proofs.Lineage.{HasEntry, find_entry, entry_there, same_id}
-use Rattle.view_walk.proofs.Within.{is_under, one_true, right_true, within_own, IsChild, of_child, some_child, all_within}
+use Rattle.view_walk.proofs.Within.{is_under, one_true, right_true, within_own, of_child, some_child, all_within}
 use Rattle.view_walk.proofs.Keys.{keys}
 use Rattle.view_walk.proofs.Orders.{path_total, last_equal, IsBefore, before_none, before_trans, base_first, child_first}
 use Rattle.view_walk.proofs.Children.{in_name_order, IsNamedBefore, child_of_list, child_in_list, children_rise, names_differ}

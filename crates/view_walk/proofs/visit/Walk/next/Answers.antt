@@ -1,4 +1,4 @@
-use Rattle.std.proofs.Common.{◌≡◌, ℕ, ◌+◌, length, arith, rules}
+use Rattle.std.proofs.Common.{◌≡◌, ◌+◌, length, arith}
 use Rattle.view_walk.proofs.Steps.{walked, walked_there}
 use Rattle.view_walk.proofs.visit.Walk.next.Goals as goal
 
