@@ -177,7 +177,7 @@ module _ (suffix : Suffix) (xs : List Change) (closed : IsClosed xs) where
 
   rising : AreRising (view_of suffix xs).present
   rising =
-      rise_map IsLower (λ (a : PresentEntry) (b : PresentEntry). uid_cmp a.id b.id ≡ Less) (present_entry present) present (λ a b l. l)
+      rise_map IsLower (λ (a : PresentEntry) (b : PresentEntry). uid_cmp a.id b.id ≡ Less) (present_entry present) present (λ a b m k l. l)
       (present_rises all (all_facts-Rises suffix xs))
 
   below : AllByRecursion IsAboveParent (view_of suffix xs).present

@@ -6,6 +6,7 @@ pub mod Keys
 pub mod Orders
 pub mod Children
 pub mod Subtrees
+pub mod Levels
 pub mod Closed
 pub mod Steps
 pub mod Stacks

@@ -1,6 +1,6 @@
 -- The entries above an entry: those above its parent, and then itself.
 use Rattle.std.proofs.Common.{◌≡◌, List, [], ◌∷◌, ◌++◌, map, refl, sym, ap, subst, ◌∙◌, inl, inr}
-use Rattle.std.specs.Prelude.{Bool, true, false, cond, not, ◌&&◌, ◌||◌, reverse}
+use Rattle.std.specs.Prelude.{Bool, true, false, cond, not, ◌&&◌, ◌||◌, reverse, find, Option, Some}
 use Rattle.std.specs.List.{AllByRecursion, list_any}
 use Rattle.std.specs.declared.cmp.Ordering.TheVariants.{Less}
 use Rattle.std.specs.Ordering.{is_eq, ordering_reverse}
@@ -12,7 +12,7 @@ use Rattle.repl_data.specs.View.{DirectoryView, PresentEntry, path_among}
 use Rattle.repl_data.proofs.Orders.{uid_total, uid_exact}
 use Rattle.repl_data.proofs.InOrder.{is_equal}
 use Rattle.repl_data.proofs.ClosedLaws.{no_csn_below}
-use Rattle.view_walk.specs.Tree.{IsAmong, HasParentBelow, is_present, IsNamedTree}
+use Rattle.view_walk.specs.Tree.{IsAmong, AreRising, HasParentBelow, is_present, IsNamedTree}
 use Rattle.view_walk.specs.Walk.{lineage_among}
 use Rattle.view_walk.proofs.Members.{never, of_reverse, in_reverse, one_of, each_of}
 use Rattle.view_walk.proofs.Rising.{Rise, rise_reverse}
@@ -119,6 +119,24 @@ entry_there (d ∷ es) e (inr m) = later (uid_eq d.id e.id) (entry_there es e m)
     later : (a : Bool) {b : Bool} → b ≡ true → (a || b) ≡ true
     later true h = refl
     later false h = h
+
+-- an entry is found by its id
+pub find_own : (es : List PresentEntry) (e : PresentEntry) → AreRising es → IsAmong e es → find (λ (f : PresentEntry). uid_eq f.id e.id) es ≡ Some e
+find_own [] e r m = elim m [ ]
+find_own (d ∷ es) e r (inl same) =
+    ap (λ b. cond b (Some d) (find (λ (f : PresentEntry). uid_eq f.id e.id) es)) (ap (λ (x : PresentEntry). uid_eq x.id e.id) (sym same) ∙ own_eq e.id)
+    ∙ ap Some (sym same)
+find_own (d ∷ es) e r (inr m) =
+    ap (λ b. cond b (Some d) (find (λ (f : PresentEntry). uid_eq f.id e.id) es)) (ap is_eq (one_of (λ (f : PresentEntry). uid_cmp d.id f.id ≡ Less) e es m r.0))
+    ∙ find_own es e r.1 m
+
+-- so no two have one id
+pub one_entry : (es : List PresentEntry) (e f : PresentEntry) → AreRising es → IsAmong e es → IsAmong f es → e.id ≡ f.id → e ≡ f
+one_entry es e f r m k same =
+    let a : find (λ (d : PresentEntry). uid_eq d.id e.id) es ≡ Some e = find_own es e r m in
+    let b : find (λ (d : PresentEntry). uid_eq d.id e.id) es ≡ Some f = subst (λ (u : Uid). find (λ (d : PresentEntry). uid_eq d.id u) es ≡ Some f) (sym same) (find_own es f r k) in
+    let both : Some e ≡ Some f = sym a ∙ b in
+    cc
 
 -- ---- in a tree
 

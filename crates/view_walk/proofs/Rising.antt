@@ -69,10 +69,10 @@ module _ {X Y : Type 0} where
       rise_append L (f x) (flat_map f xs) (own x (inl refl)) (rise_flat B L f xs r.1 (λ a m. own a (inr m)) (λ a b y z m k l. across a b y z (inr m) (inr k) l))
       (λ y z m k. let h = of_flat f z xs k in across x h.0 y z (inl refl) (inr h.1) (one_of (λ w. B x w) h.0 xs h.1 r.0) m h.2)
 
-  pub rise_map : (B : X → X → Type 0) (L : Y → Y → Type 0) (f : X → Y) (xs : List X) → ((a b : X) → B a b → L (f a) (f b)) → Rise B xs → Rise L (map f xs)
+  pub rise_map : (B : X → X → Type 0) (L : Y → Y → Type 0) (f : X → Y) (xs : List X) → ((a b : X) → IsAmong a xs → IsAmong b xs → B a b → L (f a) (f b)) → Rise B xs → Rise L (map f xs)
   rise_map B L f [] h r = tt
-  rise_map B L f (x ∷ xs) h r = (all_of xs r.0, rise_map B L f xs h r.1)
+  rise_map B L f (x ∷ xs) h r = (all_of xs (λ y m. h x y (inl refl) (inr m)) r.0, rise_map B L f xs (λ a b m k. h a b (inr m) (inr k)) r.1)
     where
-      all_of : (ys : List X) → AllByRecursion (λ y. B x y) ys → AllByRecursion (λ y. L (f x) y) (map f ys)
-      all_of [] g = tt
-      all_of (y ∷ ys) g = (h x y g.0, all_of ys g.1)
+      all_of : (ys : List X) → ((y : X) → IsAmong y ys → B x y → L (f x) (f y)) → AllByRecursion (λ y. B x y) ys → AllByRecursion (λ y. L (f x) y) (map f ys)
+      all_of [] g a = tt
+      all_of (y ∷ ys) g a = (g y (inl refl) a.0, all_of ys (λ z m. g z (inr m)) a.1)

@@ -1,32 +1,20 @@
 -- One step of a walk, and what a listing has of it.
 use Rattle.std.proofs.Common.{◌≡◌, ℕ, ◌+◌, length, get_or, drop, List, [], ◌∷◌, ◌++◌, map, refl, sym, ap, subst, ◌∙◌, inl, inr, append-nil}
-use Rattle.std.specs.Prelude.{true, cond, find, reverse, Option, Some, option_map}
+use Rattle.std.specs.Prelude.{true, reverse, Option, option_map}
 use Rattle.std.specs.Option.{option_to_list}
-use Rattle.std.specs.declared.cmp.Ordering.TheVariants.{Less}
-use Rattle.std.specs.Ordering.{is_eq}
 use Rattle.repl_data.specs.declared.csn.Uid.{Uid}
 use Rattle.repl_data.specs.declared.change.ShownEntry.{ShownEntry}
-use Rattle.repl_data.specs.Order.{uid_cmp, uid_eq, suffix_id}
+use Rattle.repl_data.specs.Order.{suffix_id}
 use Rattle.repl_data.specs.View.{DirectoryView, PresentEntry, children_of, present_shown, entry_of, path_key, path_key_cmp, in_path_order, dump_of}
 use Rattle.repl_data.proofs.Steps.{flat_map-append}
-use Rattle.view_walk.specs.Tree.{IsAmong, AreRising, IsNamedTree, is_present}
+use Rattle.view_walk.specs.Tree.{IsAmong, IsNamedTree, is_present}
 use Rattle.view_walk.specs.Walk.{subtree, left, entries_of, ArePresent}
-use Rattle.view_walk.proofs.Members.{one_of, of_in_order}
+use Rattle.view_walk.proofs.Members.{of_in_order}
 use Rattle.view_walk.proofs.Rising.{all_join}
-use Rattle.view_walk.proofs.Lineage.{own_eq}
+use Rattle.view_walk.proofs.Lineage.{find_own}
 use Rattle.view_walk.proofs.Children.{children_present}
 use Rattle.view_walk.proofs.Subtrees.{subtree_step, subtree_whole}
 use Rattle.view_walk.proofs.Stacks.{top}
-
--- an entry is found by its id
-find_own : (es : List PresentEntry) (e : PresentEntry) → AreRising es → IsAmong e es → find (λ (f : PresentEntry). uid_eq f.id e.id) es ≡ Some e
-find_own [] e r m = elim m [ ]
-find_own (d ∷ es) e r (inl same) =
-    ap (λ b. cond b (Some d) (find (λ (f : PresentEntry). uid_eq f.id e.id) es)) (ap (λ (x : PresentEntry). uid_eq x.id e.id) (sym same) ∙ own_eq e.id)
-    ∙ ap Some (sym same)
-find_own (d ∷ es) e r (inr m) =
-    ap (λ b. cond b (Some d) (find (λ (f : PresentEntry). uid_eq f.id e.id) es)) (ap is_eq (one_of (λ (f : PresentEntry). uid_cmp d.id f.id ≡ Less) e es m r.0))
-    ∙ find_own es e r.1 m
 
 module _ (v : DirectoryView) (t : IsNamedTree v) where
   shown_own : (e : PresentEntry) → IsAmong e v.present → option_to_list (entry_of v e.id) ≡ present_shown v e ∷ []

@@ -20,7 +20,7 @@ use Rattle.view_walk.proofs.Keys.{keys}
 use Rattle.view_walk.proofs.Orders.{path_total, last_equal, IsBefore, before_none, before_trans, base_first, child_first}
 use Rattle.view_walk.proofs.Children.{in_name_order, IsNamedBefore, child_of_list, child_in_list, children_rise, names_differ}
 
-same_path : (v : DirectoryView) (e f : PresentEntry) → path_key_cmp (path_key v e) (path_key v f) ≡ Equal → e.id ≡ f.id
+pub same_path : (v : DirectoryView) (e f : PresentEntry) → path_key_cmp (path_key v e) (path_key v f) ≡ Equal → e.id ≡ f.id
 same_path v e f h = uid_exact e.id f.id (last_equal (slice_cmp rdn_key_cmp (keys v e.id) (keys v f.id)) (uid_cmp e.id f.id) h)
 
 -- ---- what stands in a subtree
@@ -44,13 +44,13 @@ in_subtree v base u f h =
     (in_filter (λ (e : PresentEntry). is_within v base e.id) e.0 (in_path_order v) e.1 (subst (λ (w : Uid). is_within v base w ≡ true) e.2 h)))
 
 -- and in which order
-listing_rises : (v : DirectoryView) → Rise (λ (a : PresentEntry) (b : PresentEntry). path_key_cmp (path_key v a) (path_key v b) ≡ Less) (in_path_order v)
+pub listing_rises : (v : DirectoryView) → Rise (λ (a : PresentEntry) (b : PresentEntry). path_key_cmp (path_key v a) (path_key v b) ≡ Less) (in_path_order v)
 listing_rises v = in_order_by-Rises path_key_cmp path_total (path_key v) v.present
 
 pub subtree_rises : (v : DirectoryView) (base : Uid) → Rise (IsBefore v) (subtree v base)
 subtree_rises v base =
     rise_map (λ (a : PresentEntry) (b : PresentEntry). path_key_cmp (path_key v a) (path_key v b) ≡ Less) (IsBefore v) (λ (e : PresentEntry). e.id)
-    (filter (λ (e : PresentEntry). is_within v base e.id) (in_path_order v)) (λ a b l. l)
+    (filter (λ (e : PresentEntry). is_within v base e.id) (in_path_order v)) (λ a b m k l. l)
     (rise_filter (λ (a : PresentEntry) (b : PresentEntry). path_key_cmp (path_key v a) (path_key v b) ≡ Less) (λ (e : PresentEntry). is_within v base e.id) (in_path_order v) (listing_rises v))
 
 flat_map_map : {X Y Z : Type 0} (f : Y → List Z) (g : X → Y) (xs : List X) → flat_map f (map g xs) ≡ flat_map (λ x. f (g x)) xs

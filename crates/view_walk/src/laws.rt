@@ -1,6 +1,6 @@
 //! What is walked.
 
-ghost use Rattle.std.specs.Prelude.{◌≡◌, ◌||◌, ◌∷◌, List, true, false, map, flat_map};
+ghost use Rattle.std.specs.Prelude.{◌≡◌, ◌||◌, ◌∷◌, List, true, false, map, filter, flat_map};
 ghost use Rattle.std.specs.List.{AllByRecursion};
 ghost use Rattle.repl_data.specs.declared.csn.Uid.{Uid};
 ghost use Rattle.repl_data.specs.declared.change.Change.{Change};
@@ -8,7 +8,7 @@ ghost use Rattle.repl_data.specs.declared.change.Suffix.{Suffix};
 ghost use Rattle.repl_data.specs.Closed.{IsClosed};
 ghost use Rattle.repl_data.specs.Text.{IsInRange};
 ghost use Rattle.repl_data.specs.Order.{uid_eq, suffix_id};
-ghost use Rattle.repl_data.specs.View.{DirectoryView, PresentEntry, view_of, children_of, in_path_order};
+ghost use Rattle.repl_data.specs.View.{DirectoryView, PresentEntry, view_of, is_shown_below, children_of, in_path_order};
 ghost use Rattle.view_walk.specs.Tree.{IsNamedTree, IsAmong, is_present};
 ghost use Rattle.view_walk.specs.Walk.{is_within, subtree};
 
@@ -22,6 +22,9 @@ pub fn walk_laws()
 
     // Within an entry stand it, and then all within its children, child by child in their order.
     ensures step { (v : DirectoryView) (u : Uid) → IsNamedTree v → is_present v u ≡ true → subtree v u ≡ u ∷ flat_map (subtree v) (children_of v u) }
+
+    // The children of an entry are those that show below it, in the order of a listing.
+    ensures level { (v : DirectoryView) (u : Uid) → IsNamedTree v → children_of v u ≡ map (λ (e : PresentEntry). e.id) (filter (is_shown_below u) (in_path_order v)) }
 
     // Within the suffix entry stand all present entries, in the order of a listing.
     ensures whole { (v : DirectoryView) → IsNamedTree v → subtree v suffix_id ≡ map (λ (e : PresentEntry). e.id) (in_path_order v) }
