@@ -10,6 +10,7 @@ mod held;
 mod ended;
 mod modify;
 mod read_mod;
+mod spelled;
 mod step;
 mod reading;
 mod table;

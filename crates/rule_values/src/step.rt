@@ -17,7 +17,7 @@ use crate::case::refuse_if;
 use crate::fault::{Refusal, ValueFault};
 use crate::held::take_held;
 use crate::table::{Table, put_attribute};
-use crate::val_set::ValSet;
+use crate::val_set::{ValSet, with_all};
 use repl_data::{AttrKey, Mod, ModKind, NoMemory, Shown, Val};
 use std::alloc::Global;
 
@@ -81,17 +81,9 @@ fn values_after(alloc: Global, m: &Mod, had: ValSet) -> Result<ValSet, NoMemory>
     ensures { IfOk result (λ vals. vals ≡ values_after m.now.kind m.now.vals had) }
 {
     match m.kind {
-        ModKind::Add => {
-            let mut vals = had;
-            vals.put_all(m.vals.as_slice())?;
-            Ok(vals)
-        }
+        ModKind::Add => with_all(had, m.vals.as_slice()),
         ModKind::Delete => Ok(deleted(alloc, m.vals.as_slice(), had)),
-        ModKind::Replace => {
-            let mut vals = ValSet::new(alloc);
-            vals.put_all(m.vals.as_slice())?;
-            Ok(vals)
-        }
+        ModKind::Replace => with_all(ValSet::new(alloc), m.vals.as_slice()),
     }
 }
 
