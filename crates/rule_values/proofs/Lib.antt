@@ -1,6 +1,4 @@
 pub mod Places
-pub mod Goods
-pub mod Named
 pub mod Counts
 pub mod InTurn
 pub mod SetLemmas

@@ -13,20 +13,23 @@ use Rattle.repl_data.specs.declared.change.Val.{Val}
 use Rattle.repl_data.specs.declared.change.Attr.{Attr}
 use Rattle.repl_data.specs.declared.change.Mod.{Mod}
 use Rattle.repl_data.specs.declared.change.Shown.{Shown}
+use Rattle.repl_data.specs.declared.change.ModKind.TheVariants.{Delete}
+use Rattle.repl_data.specs.Check.{is_empty}
 use Rattle.repl_data.specs.Order.{bytes_cmp, bytes_eq, by_order, foldr}
 use Rattle.repl_data.specs.Ordered.{Rises}
 use Rattle.repl_data.specs.Plain.{add_values, without_values, values_after}
 use Rattle.repl_data.specs.View.{put_attr, vals_at}
-use Rattle.repl_data.proofs.KeyPlaces.{above, is_same}
-use Rattle.repl_data.proofs.Orders.{bytes_total, bytes_exact}
+use Rattle.repl_data.proofs.KeyPlaces.{is_same}
+use Rattle.repl_data.proofs.Orders.{bytes_exact}
+use Rattle.repl_data.proofs.Sound.{not_both}
 use Rattle.ldap_types.specs.declared.request.RawMod.{RawMod}
 use Rattle.rule_values.specs.declared.fault.Refusal.{Refusal}
 use Rattle.rule_values.specs.declared.fault.ValueFault.{ValueFault}
 use Rattle.rule_values.specs.Refusing.{◌>>=◌, Fails}
-use Rattle.rule_values.specs.Having.{attr_name, held}
-use Rattle.rule_values.specs.Modify.{shown_values, after, step, carried}
+use Rattle.rule_values.specs.Having.{attr_name, held, step}
+use Rattle.rule_values.specs.Modify.{shown_values, after, read_mod, fits, carried}
 use Rattle.rule_values.specs.Written.{Values, write_before, written}
-use Rattle.rule_values.proofs.Places.{equal_key, other_key, above_others}
+use Rattle.rule_values.proofs.Places.{equal_key, above_others}
 use Rattle.rule_values.proofs.InTurn.{go_on, stop}
 use Rattle.rule_values.proofs.SetLemmas.{same_turned, is_other}
 
@@ -38,42 +41,31 @@ found name attrs = find (λ (a : Attr). bytes_eq name a.attr.name) attrs
 find_step : (name : List ℕ) (a : Attr) (attrs : List Attr) (t : Bool) → bytes_eq name a.attr.name ≡ t → found name (a ∷ attrs) ≡ cond t (Some a) (found name attrs)
 find_step name a attrs t e = ap (λ b. cond b (Some a) (found name attrs)) e
 
+-- two names that are not equal are not both this one
+apart : (name x y : List ℕ) → bytes_cmp x y ≡ Greater → bytes_eq name x ≡ true → bytes_eq name y ≡ true → ⊥
+apart name x y e h g =
+    not_both (bytes_eq x y) (equal_key x y (sym (is_same name x h) ∙ is_same name y g)) (ap is_eq e)
+
+behind : (a b : Attr) (r : Option Attr) (t u : Bool) → (t ≡ true → u ≡ true → ⊥) → cond u (Some b) (cond t (Some a) r) ≡ cond t (Some a) (cond u (Some b) r)
+behind a b r true true f = absurd (f refl refl)
+behind a b r true false f = refl
+behind a b r false u f = refl
+
+in_place : (name : List ℕ) (a b : Attr) (attrs : List Attr) → bytes_cmp a.attr.name b.attr.name ≡ Equal → (t : Bool) → bytes_eq name a.attr.name ≡ t → cond t (Some a) (found name attrs) ≡ cond t (Some a) (found name (b ∷ attrs))
+in_place name a b attrs e true h = refl
+in_place name a b attrs e false h = sym (find_step name b attrs false (ap (bytes_eq name) (sym (bytes_exact a.attr.name b.attr.name e)) ∙ h))
+
 pub find_put : (name : List ℕ) (a : Attr) (attrs : List Attr) → found name (put_attr a attrs) ≡ cond (bytes_eq name a.attr.name) (Some a) (found name attrs)
 find_put name a [] = refl
 find_put name a (b ∷ attrs) = by (bytes_cmp a.attr.name b.attr.name) refl (find_put name a attrs)
   where
-    behind : (t u : Bool) → (t ≡ true → u ≡ true → ⊥) → cond u (Some b) (cond t (Some a) (found name attrs)) ≡ cond t (Some a) (cond u (Some b) (found name attrs))
-    behind true true f = absurd (f refl refl)
-    behind true false f = refl
-    behind false u f = refl
-
     by : (o : Ordering) → bytes_cmp a.attr.name b.attr.name ≡ o → found name (put_attr a attrs) ≡ cond (bytes_eq name a.attr.name) (Some a) (found name attrs)
         → found name (by_order o (a ∷ b ∷ attrs) (a ∷ attrs) (b ∷ put_attr a attrs)) ≡ cond (bytes_eq name a.attr.name) (Some a) (found name (b ∷ attrs))
     by Less e more = refl
-    by Equal e more = same (bytes_eq name a.attr.name) refl
-      where
-        same : (t : Bool) → bytes_eq name a.attr.name ≡ t → cond t (Some a) (found name attrs) ≡ cond t (Some a) (found name (b ∷ attrs))
-        same true h = refl
-        same false h = sym (find_step name b attrs false (ap (bytes_eq name) (sym (bytes_exact a.attr.name b.attr.name e)) ∙ h))
+    by Equal e more = in_place name a b attrs e (bytes_eq name a.attr.name) refl
     by Greater e more =
         ap (λ (r : Option Attr). cond (bytes_eq name b.attr.name) (Some b) r) more
-        ∙ behind (bytes_eq name a.attr.name) (bytes_eq name b.attr.name) (λ h g. apart (is_same name a.attr.name h) (is_same name b.attr.name g))
-      where
-        apart : name ≡ a.attr.name → name ≡ b.attr.name → ⊥
-        apart h g =
-            let n : Greater ≡ Equal = sym e ∙ ap (λ (x : List ℕ). bytes_cmp x b.attr.name) (sym h ∙ g) ∙ tied b.attr.name in
-            differ n
-          where
-            tied : (x : List ℕ) → bytes_cmp x x ≡ Equal
-            tied x = equal (bytes_cmp x x) (equal_key x x refl)
-              where
-                equal : (o : Ordering) → is_eq o ≡ true → o ≡ Equal
-                equal Less q = let f : false ≡ true = q in cc
-                equal Equal q = refl
-                equal Greater q = let f : false ≡ true = q in cc
-
-            differ : Greater ≡ Equal → ⊥
-            differ q = let f : false ≡ true = ap is_eq q in cc
+        ∙ behind a b (found name attrs) (bytes_eq name a.attr.name) (bytes_eq name b.attr.name) (apart name a.attr.name b.attr.name e)
 
 -- what the entry has with values of an attribute put among those touched
 pub held_put : (own : List Shown) (touched : List Attr) (t : AttrKey) (vals : List Val) (name : List ℕ) → held own (put_attr (record { attr = t; vals = vals }) touched) name ≡ cond (bytes_eq name t.name) vals (held own touched name)
@@ -115,10 +107,7 @@ append_nil [] = refl
 append_nil (x ∷ xs) = ap (λ r. x ∷ r) (append_nil xs)
 
 pub vals_found : (own : List Shown) (name : List ℕ) (touched : List Attr) → Rises attr_name touched → is_some (found name touched) ≡ true → vals_at name touched ≡ held own touched name
-vals_found own name [] r h = let f : false ≡ true = h in absurd (nothing f)
-  where
-    nothing : false ≡ true → ⊥
-    nothing e = cc
+vals_found own name [] r h = absurd (not_both false h refl)
 vals_found own name (a ∷ touched) r h = by (bytes_eq name a.attr.name) refl
   where
     by : (b : Bool) → bytes_eq name a.attr.name ≡ b → vals_at name (a ∷ touched) ≡ held own (a ∷ touched) name
@@ -154,16 +143,10 @@ shown_end vals own name i total l so_far = sym (at_drop_all (λ (xs : List Shown
 
 -- ---- the values that are deleted, one after the other
 
-any_or : (v : Val) (w : Val) (gone : List Val) → list_any (λ (x : Val). bytes_eq x.key v.key) (w ∷ gone) ≡ (bytes_eq w.key v.key || list_any (λ (x : Val). bytes_eq x.key v.key) gone)
-any_or v w gone = refl
-
 pub take_one : (w : Val) (gone had : List Val) → without_values gone (filter (is_other w.key) had) ≡ without_values (w ∷ gone) had
 take_one w gone [] = refl
 take_one w gone (v ∷ had) = by (bytes_eq v.key w.key) refl (take_one w gone had)
   where
-    rest : Bool → List Val → List Val → List Val
-    rest t kept more = cond t kept more
-
     by : (t : Bool) → bytes_eq v.key w.key ≡ t → without_values gone (filter (is_other w.key) had) ≡ without_values (w ∷ gone) had
         → without_values gone (cond (not t) (v ∷ filter (is_other w.key) had) (filter (is_other w.key) had)) ≡ cond (not (bytes_eq w.key v.key || list_any (λ (x : Val). bytes_eq x.key v.key) gone)) (v ∷ without_values (w ∷ gone) had) (without_values (w ∷ gone) had)
     by true e more = more ∙ ap (λ b. cond (not (b || list_any (λ (x : Val). bytes_eq x.key v.key) gone)) (v ∷ without_values (w ∷ gone) had) (without_values (w ∷ gone) had)) (sym (same_turned w.key v.key ∙ e))
@@ -185,6 +168,19 @@ takes_end had gone i total l so_far = sym (all_stay had) ∙ sym (at_drop_all (�
 
 -- ---- modifications in turn
 
+-- what follows a modification that is read and fits
+step_then : {B : Type 0} (has : Values) (g : RawMod) (k : Mod → Result B Refusal) → (read_mod g >>= λ m. fits m.kind m.vals (has m.attr.name) >>= λ _. k m) ≡ (step has g >>= k)
+unfolding step
+step_then has g k = by (read_mod g)
+  where
+    fit : (m : Mod) (f : Result (Unit {0}) Refusal) → (f >>= λ _. k m) ≡ ((f >>= λ _. Ok m) >>= k)
+    fit m (Ok u) = refl
+    fit m (Err e) = refl
+
+    by : (r : Result Mod Refusal) → (r >>= λ m. fits m.kind m.vals (has m.attr.name) >>= λ _. k m) ≡ ((r >>= λ m. fits m.kind m.vals (has m.attr.name) >>= λ _. Ok m) >>= k)
+    by (Ok m) = fit m (fits m.kind m.vals (has m.attr.name))
+    by (Err e) = refl
+
 -- those that are to come, behind those that were carried out
 abbrev pub rest_of : Values → List Mod → List RawMod → Result (List Mod) Refusal
 rest_of has mods given = carried has given >>= λ more. Ok (mods ++ more)
@@ -200,24 +196,35 @@ rest_first has given = by (carried has given)
     by (Ok mods) = refl
     by (Err e) = refl
 
-pub mods_go : (has next : Values) (mods : List Mod) (m : Mod) (given : List RawMod) (i : ℕ) (g : RawMod) (total : Result (List Mod) Refusal) → i < length given → g ≡ get_or given i g → rest_of has mods (drop i given) ≡ total → step has g ≡ Ok m → next ≡ after has m → rest_of next (mods ++ m ∷ []) (drop (i + 1) given) ≡ total
+-- the first of those that are to come
+rest_step : (has : Values) (mods : List Mod) (g : RawMod) (given : List RawMod) → rest_of has mods (g ∷ given) ≡ (step has g >>= λ m. rest_of (after has m) (mods ++ m ∷ []) given)
 unfolding carried
-mods_go has next mods m given i g total l e so_far h n =
-    ap (λ (x : Values). rest_of x (mods ++ m ∷ []) (drop (i + 1) given)) n
-    ∙ by (carried (after has m) (drop (i + 1) given))
-    ∙ sym (ap (λ (r : Result Mod Refusal). (r >>= λ x. carried (after has x) (drop (i + 1) given) >>= λ xs. Ok (x ∷ xs)) >>= λ more. Ok (mods ++ more)) (ap (step has) (sym e) ∙ h))
-    ∙ sym (at_drop_more (rest_of has mods) given i g l) ∙ so_far
+rest_step has mods g given =
+    ap (λ (r : Result (List Mod) Refusal). r >>= λ more. Ok (mods ++ more)) (step_then has g (λ m. carried (after has m) given >>= λ xs. Ok (m ∷ xs)))
+    ∙ by (step has g)
   where
-    by : (r : Result (List Mod) Refusal) → (r >>= λ more. Ok ((mods ++ m ∷ []) ++ more)) ≡ ((r >>= λ xs. Ok (m ∷ xs)) >>= λ more. Ok (mods ++ more))
-    by (Ok xs) = ap Ok (append_one mods m xs)
-    by (Err x) = refl
+    one : (m : Mod) (r : Result (List Mod) Refusal) → ((r >>= λ xs. Ok (m ∷ xs)) >>= λ more. Ok (mods ++ more)) ≡ (r >>= λ more. Ok ((mods ++ m ∷ []) ++ more))
+    one m (Ok xs) = ap Ok (sym (append_one mods m xs))
+    one m (Err e) = refl
+
+    by : (s : Result Mod Refusal) → ((s >>= λ m. carried (after has m) given >>= λ xs. Ok (m ∷ xs)) >>= λ more. Ok (mods ++ more)) ≡ (s >>= λ m. rest_of (after has m) (mods ++ m ∷ []) given)
+    by (Ok m) = one m (carried (after has m) given)
+    by (Err e) = refl
+
+pub mods_go : (has next : Values) (mods new : List Mod) (m : Mod) (given : List RawMod) (i : ℕ) (g : RawMod) (total : Result (List Mod) Refusal) → i < length given → g ≡ get_or given i g → rest_of has mods (drop i given) ≡ total → step has g ≡ Ok m → next ≡ after has m → new ≡ mods ++ m ∷ [] → rest_of next new (drop (i + 1) given) ≡ total
+mods_go has next mods new m given i g total l e so_far h n p =
+    ap (λ (xs : List Mod). rest_of next xs (drop (i + 1) given)) p
+    ∙ ap (λ (x : Values). rest_of x (mods ++ m ∷ []) (drop (i + 1) given)) n
+    ∙ sym (ap (λ (s : Result Mod Refusal). s >>= λ x. rest_of (after has x) (mods ++ x ∷ []) (drop (i + 1) given)) h)
+    ∙ sym (rest_step has mods g (drop (i + 1) given))
+    ∙ ap (λ (x : RawMod). rest_of has mods (x ∷ drop (i + 1) given)) e
+    ∙ sym (at_drop_more (rest_of has mods) given i g l) ∙ so_far
 
 pub mods_stop : (has : Values) (mods : List Mod) (given : List RawMod) (i : ℕ) (g : RawMod) (total : Result (List Mod) Refusal) (e : ValueFault) → i < length given → g ≡ get_or given i g → rest_of has mods (drop i given) ≡ total → Fails e (step has g) → Fails e total
-unfolding carried
 mods_stop has mods given i g total e l is so_far h =
-    subst (Fails e) (sym (at_drop_more (rest_of has mods) given i g l) ∙ so_far)
-    (stop (step has (get_or given i g) >>= λ x. carried (after has x) (drop (i + 1) given) >>= λ xs. Ok (x ∷ xs)) e _
-    (stop (step has (get_or given i g)) e _ (subst (λ (x : RawMod). Fails e (step has x)) is h)))
+    subst (Fails e)
+    (sym (rest_step has mods g (drop (i + 1) given)) ∙ ap (λ (x : RawMod). rest_of has mods (x ∷ drop (i + 1) given)) is ∙ sym (at_drop_more (rest_of has mods) given i g l) ∙ so_far)
+    (stop (step has g) e _ h)
 
 pub mods_end : (has : Values) (mods : List Mod) (given : List RawMod) (i : ℕ) (total : Result (List Mod) Refusal) → length given ≤ i → rest_of has mods (drop i given) ≡ total → total ≡ Ok mods
 unfolding carried
@@ -227,14 +234,9 @@ mods_end has mods given i total l so_far = sym so_far ∙ at_drop_all (rest_of h
     none [] = refl
     none (x ∷ xs) = ap (λ (r : List Mod). x ∷ r) (none xs)
 
-pub after_more : (first has next : Values) (mods : List Mod) (m : Mod) → has ≡ fold after first mods → next ≡ after has m → next ≡ fold after first (mods ++ m ∷ [])
-after_more first has next mods m h n = n ∙ ap (λ (x : Values). after x m) h ∙ sym (fold-append after first mods (m ∷ []))
-
--- ---- what is written, from the last modification on
-
-pub foldr_append : {X A : Type 0} (f : X → A → A) (a : A) (xs : List X) (y : X) → foldr f a (xs ++ y ∷ []) ≡ foldr f (f y a) xs
-foldr_append f a [] y = refl
-foldr_append f a (x ∷ xs) y = ap (f x) (foldr_append f a xs y)
+pub after_more : (first has next : Values) (mods new : List Mod) (m : Mod) → has ≡ fold after first mods → next ≡ after has m → new ≡ mods ++ m ∷ [] → next ≡ fold after first new
+after_more first has next mods new m h n p =
+    n ∙ ap (λ (x : Values). after x m) h ∙ sym (fold-append after first mods (m ∷ [])) ∙ ap (fold after first) (sym p)
 
 -- ---- tests of all and of one, in turn
 
@@ -259,3 +261,17 @@ any_stop q xs i x total l e so_far h =
 
 pub any_end : {X : Type 0} (q : X → Bool) (xs : List X) (i : ℕ) (total : Bool) → length xs ≤ i → list_any q (drop i xs) ≡ total → false ≡ total
 any_end q xs i total l so_far = sym (at_drop_all (list_any q) xs i l) ∙ so_far
+
+-- ---- deletes by what they name
+
+pub deletes_all : (vals had : List Val) → is_empty vals ≡ true → [] ≡ values_after Delete vals had
+deletes_all [] had h = refl
+deletes_all (v ∷ vals) had h = absurd (not_both false h refl)
+
+pub deletes_some : (vals had : List Val) → is_empty vals ≡ false → without_values vals had ≡ values_after Delete vals had
+deletes_some [] had h = absurd (not_both true refl h)
+deletes_some (v ∷ vals) had h = refl
+
+pub none_found : {X : Type 0} (o : Option X) → is_some o ≡ false → None ≡ o
+none_found None h = refl
+none_found (Some x) h = absurd (not_both true refl h)

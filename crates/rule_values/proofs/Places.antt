@@ -49,4 +49,3 @@ vals_at_gap k (b ∷ attrs) zero r h =
     all_above k b (z ∷ zs) h g = (bytes_total.trans k b.attr.name z.attr.name h g.0, all_above k b zs h g.1)
 vals_at_gap k (b ∷ attrs) (suc n) r h =
     vals_at_gap k attrs n r.1 h.1 ∙ ap (λ t. cond t b.vals [] ++ vals_at k attrs) (sym (other_key b.attr.name k Less h.0 refl))
-

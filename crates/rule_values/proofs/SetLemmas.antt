@@ -1,6 +1,6 @@
 -- A map from keys to spellings, changed and looked up as a list of values.
 use Rattle.std.proofs.Common.{◌≡◌, ℕ, ◌+◌, ◌<◌, ◌≤◌, Bool, true, false, cond, not, ◌||◌, List, [], ◌∷◌, ◌++◌, map, length, get_or, drop, refl, sym, ap, subst, ◌∙◌, Option, Some, None, arith}
-use Rattle.std.specs.Prelude.{filter, fold, is_some}
+use Rattle.std.specs.Prelude.{◌==◌, filter, fold, is_some}
 use Rattle.std.specs.List.{AllByRecursion, list_any}
 use Rattle.std.specs.List.Sorted.{IsStrictlySortedBy}
 use Rattle.std.specs.declared.cmp.Ordering.{Ordering}
@@ -13,6 +13,8 @@ use Rattle.std.specs.declared.alloc.Global.{Global}
 use Rattle.std.proofs.lemmas.List.{at_drop_more, at_drop_all}
 use Rattle.repl_data.specs.declared.change.Val.{Val}
 use Rattle.repl_data.specs.Order.{bytes_cmp, bytes_eq, by_order}
+use Rattle.std.proofs.lemmas.Bool.Decides.{nat_tests}
+use Rattle.repl_data.specs.Check.{is_empty}
 use Rattle.repl_data.specs.Ordered.{Rises}
 use Rattle.repl_data.specs.Plain.{add_values}
 use Rattle.repl_data.specs.View.{put_val}
@@ -21,9 +23,6 @@ use Rattle.repl_data.proofs.KeyPlaces.{above}
 use Rattle.rule_values.specs.Having.{val_key}
 use Rattle.rule_values.specs.Listed.{has_key}
 use Rattle.rule_values.specs.Sets.{val_of, vals_of}
-
-abbrev Key : Type 0
-Key = Vec ℕ Global
 
 abbrev pub key_cmp : Vec ℕ Global → Vec ℕ Global → Ordering
 key_cmp x y = bytes_cmp x.items y.items
@@ -72,13 +71,13 @@ all_kept key (e ∷ es) h =
 pub vals_take : (key : List ℕ) (es : List (Vec ℕ Global × List ℕ)) → IsStrictlySortedBy key_cmp (keys_of es) → vals_of (remove_entry (is_at (against key)) es) ≡ filter (is_other key) (vals_of es)
 unfolding IsStrictlySortedBy
 vals_take key [] h = refl
-vals_take key (e ∷ es) h = by (bytes_cmp key e.0.items) refl (vals_take key es h.1) ∙ ap (λ t. cond (not t) (val_of e ∷ filter (is_other key) (vals_of es)) (filter (is_other key) (vals_of es))) (same_turned key e.0.items)
+vals_take key (e ∷ es) h = by (bytes_cmp key e.0.items) refl h.0 (vals_take key es h.1) ∙ ap (λ t. cond (not t) (val_of e ∷ filter (is_other key) (vals_of es)) (filter (is_other key) (vals_of es))) (same_turned key e.0.items)
   where
-    by : (o : Ordering) → bytes_cmp key e.0.items ≡ o → vals_of (remove_entry (is_at (against key)) es) ≡ filter (is_other key) (vals_of es)
+    by : (o : Ordering) → bytes_cmp key e.0.items ≡ o → AllByRecursion (λ (y : Vec ℕ Global). bytes_cmp e.0.items y.items ≡ Less) (keys_of es) → vals_of (remove_entry (is_at (against key)) es) ≡ filter (is_other key) (vals_of es)
         → vals_of (cond (is_eq o) es (e ∷ remove_entry (is_at (against key)) es)) ≡ cond (not (is_eq o)) (val_of e ∷ filter (is_other key) (vals_of es)) (filter (is_other key) (vals_of es))
-    by Less g more = ap (λ (r : List Val). val_of e ∷ r) more
-    by Equal g more = sym (all_kept key es (subst (λ (k : List ℕ). AllByRecursion (λ (y : Vec ℕ Global). bytes_cmp k y.items ≡ Less) (keys_of es)) (sym (bytes_exact key e.0.items g)) h.0))
-    by Greater g more = ap (λ (r : List Val). val_of e ∷ r) more
+    by Less g rest more = ap (λ (r : List Val). val_of e ∷ r) more
+    by Equal g rest more = sym (all_kept key es (subst (λ (k : List ℕ). AllByRecursion (λ (y : Vec ℕ Global). bytes_cmp k y.items ≡ Less) (keys_of es)) (sym (bytes_exact key e.0.items g)) rest))
+    by Greater g rest more = ap (λ (r : List Val). val_of e ∷ r) more
 
 -- the order
 pub vals_rise : (es : List (Vec ℕ Global × List ℕ)) → IsStrictlySortedBy key_cmp (keys_of es) → Rises val_key (vals_of es)
@@ -134,3 +133,12 @@ puts_rising vals r = puts_behind [] vals r (all vals)
     all : (vs : List Val) → AllByRecursion (IsBelow []) vs
     all [] = tt
     all (v ∷ vs) = (tt, all vs)
+
+-- ---- no value
+
+not_zero : (n : ℕ) → 0 < n → (n == 0) ≡ false
+not_zero n h = grind (arith, nat_tests)
+
+pub none_of : (es : List (Vec ℕ Global × List ℕ)) (n : ℕ) → n ≡ length es → (n == 0) ≡ is_empty (vals_of es)
+none_of [] n h = ap (λ (m : ℕ). m == 0) h
+none_of (e ∷ es) n h = not_zero n (omega (arith, h))

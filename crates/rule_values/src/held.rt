@@ -70,6 +70,25 @@ pub(crate) fn count_held(
     }
 }
 
+/// Whether the entry has no value of an attribute.
+pub(crate) fn is_without(
+    alloc: Global,
+    own: &[Shown],
+    touched: &Table,
+    name: &[u8],
+) -> Result<bool, NoMemory>
+    requires { Rises attr_name touched.now }
+    ensures { IfOk result (λ is. is ≡ is_empty (held own.now touched.now name.now)) }
+{
+    match touched_at(touched, name) {
+        Some(attr) => Ok(attr.vals.is_empty()),
+        None => {
+            let vals = shown_values(alloc, own, name)?;
+            Ok(vals.is_empty())
+        }
+    }
+}
+
 /// Whether the entry has this value of an attribute.
 pub(crate) fn is_held(
     alloc: Global,

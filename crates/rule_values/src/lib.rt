@@ -5,14 +5,14 @@
 mod attributes;
 mod case;
 mod counting;
+mod ended;
 mod fault;
 mod held;
-mod ended;
 mod modify;
 mod read_mod;
+mod reading;
 mod spelled;
 mod step;
-mod reading;
 mod table;
 mod val_set;
 mod written;

@@ -3,6 +3,7 @@
 ghost use Rattle.std.specs.Prelude.{◌≡◌, filter, not, length, IfOk, OnOk};
 ghost use Rattle.repl_data.specs.declared.change.Val.{Val};
 ghost use Rattle.repl_data.specs.Order.{bytes_eq};
+ghost use Rattle.repl_data.specs.Check.{is_empty};
 ghost use Rattle.repl_data.specs.Ordered.{Rises};
 ghost use Rattle.repl_data.specs.View.{put_val};
 ghost use Rattle.rule_values.specs.Having.{val_key};
@@ -21,6 +22,12 @@ pub(crate) fn count(spelled: &Spelled) -> usize
     ensures { result ≡ length (vals_of spelled.now.entries) }
 {
     spelled.len()
+}
+
+pub(crate) fn is_empty(spelled: &Spelled) -> bool
+    ensures { result ≡ is_empty (vals_of spelled.now.entries) }
+{
+    spelled.len() == 0
 }
 
 pub(crate) fn has(spelled: &Spelled, key: &[u8]) -> bool
@@ -53,8 +60,8 @@ pub(crate) fn into_list(alloc: Global, spelled: Spelled) -> Result<ValList, NoMe
 {
     let _count = spelled.len();
     let mut vals = ValList::new(alloc);
-    for (key, text) in spelled {
-        let key = Bytes::from_vec(key);
+    for (bytes, text) in spelled {
+        let key = Bytes::from_vec(bytes);
         vals.push(Val { key, spelled: text })?;
     }
     Ok(vals)
@@ -73,8 +80,8 @@ pub(crate) fn to_list(alloc: Global, spelled: &Spelled) -> Result<ValList, NoMem
     ensures { IfOk result (λ vals. vals ≡ vals_of spelled.now.entries) }
 {
     let mut vals = ValList::new(alloc);
-    for (key, text) in spelled {
-        vals.push(copy_value(alloc, key, text)?)?;
+    for (bytes, text) in spelled {
+        vals.push(copy_value(alloc, bytes, text)?)?;
     }
     Ok(vals)
 }

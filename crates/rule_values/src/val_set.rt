@@ -3,13 +3,14 @@
 ghost use Rattle.std.specs.Prelude.{◌≡◌, [], filter, not, length, IfOk, OnOk};
 ghost use Rattle.repl_data.specs.declared.change.Val.{Val};
 ghost use Rattle.repl_data.specs.Order.{bytes_eq};
+ghost use Rattle.repl_data.specs.Check.{is_empty};
 ghost use Rattle.repl_data.specs.Ordered.{Rises};
 ghost use Rattle.repl_data.specs.Plain.{add_values};
 ghost use Rattle.repl_data.specs.View.{put_val};
 ghost use Rattle.rule_values.specs.Having.{val_key};
 ghost use Rattle.rule_values.specs.Listed.{has_key};
 
-use crate::spelled::{Spelled, count, has, into_list, put, take, to_list};
+use crate::spelled::{Spelled, count, has, into_list, is_empty, put, take, to_list};
 use repl_data::{NoMemory, Val, ValList};
 use std::alloc::Global;
 use std::collections::BTreeMap;
@@ -45,6 +46,12 @@ impl ValSet {
         ensures { result ≡ length self.now }
     {
         count(&self.spelled)
+    }
+
+    pub(crate) fn is_empty(&self) -> bool
+        ensures { result ≡ is_empty self.now }
+    {
+        is_empty(&self.spelled)
     }
 
     pub(crate) fn has(&self, key: &[u8]) -> bool

@@ -1,5 +1,5 @@
-use Rattle.std.proofs.Common.{◌≡◌, ◌++◌}
+use Rattle.std.proofs.Common.{◌≡◌}
 use Rattle.rule_values.proofs.table.to_attributes.Given as goal
 
 abbrev pub invariant-loop-held : goal.invariant-loop-held
-invariant-loop-held l = l.attrs ++ l.held-iterator ≡ l.fn.table
+invariant-loop-held l = l.attrs ≡ l.yielded
