@@ -1,0 +1,100 @@
+//! What must stand when all modifications are carried out.
+
+ghost use Rattle.std.specs.Prelude.{◌≡◌, IfOk};
+ghost use Rattle.std.specs.List.{list_any, list_all};
+ghost use Rattle.repl_data.specs.Ordered.{Rises};
+ghost use Rattle.rule_values.specs.Having.{attr_name, held};
+ghost use Rattle.rule_values.specs.Refusing.{Gives};
+ghost use Rattle.rule_values.specs.Modify.{has_second, has_part, ended};
+
+use crate::case::refuse_if;
+use crate::fault::{Refusal, ValueFault};
+use crate::held::{count_held, is_held};
+use crate::table::Table;
+use repl_data::{Ava, Mod, NoMemory, Rdn, Shown, is_single};
+use std::alloc::Global;
+
+fn has_part(
+    alloc: Global,
+    own: &[Shown],
+    touched: &Table,
+    ava: &Ava,
+) -> Result<bool, NoMemory>
+    requires { Rises attr_name touched.now }
+    ensures { IfOk result (λ has. has ≡ has_part (held own.now touched.now) ava.now) }
+{
+    let name = ava.attr.name.as_slice();
+    is_held(alloc, own, touched, name, ava.val.key.as_slice())
+}
+
+/// Whether the entry has the values of its name.
+fn has_parts(
+    alloc: Global,
+    own: &[Shown],
+    touched: &Table,
+    avas: &[Ava],
+) -> Result<bool, NoMemory>
+    requires { Rises attr_name touched.now }
+    ensures { IfOk result (λ has. has ≡ list_all (has_part (held own.now touched.now)) avas.now) }
+{
+    for ava in avas {
+        if !has_part(alloc, own, touched, ava)? {
+            return Ok(false);
+        }
+    }
+    Ok(true)
+}
+
+fn has_second(
+    alloc: Global,
+    own: &[Shown],
+    touched: &Table,
+    m: &Mod,
+) -> Result<bool, NoMemory>
+    requires { Rises attr_name touched.now }
+    ensures { IfOk result (λ has. has ≡ has_second (held own.now touched.now) m.now) }
+{
+    if !is_single(&m.attr) {
+        return Ok(false);
+    }
+    let count = count_held(alloc, own, touched, m.attr.name.as_slice())?;
+    Ok(count > 1)
+}
+
+/// Whether a single-valued type that is modified has more than one value.
+fn any_has_second(
+    alloc: Global,
+    own: &[Shown],
+    touched: &Table,
+    mods: &[Mod],
+) -> Result<bool, NoMemory>
+    requires { Rises attr_name touched.now }
+    ensures { IfOk result (λ any. any ≡ list_any (has_second (held own.now touched.now)) mods.now) }
+{
+    for m in mods {
+        if has_second(alloc, own, touched, m)? {
+            return Ok(true);
+        }
+    }
+    Ok(false)
+}
+
+/// The cases after all modifications.
+#[tactic(auto, unfolding(crate::specs::Modify::ended))]
+pub(crate) fn ended(
+    alloc: Global,
+    own: &[Shown],
+    touched: &Table,
+    name: &Rdn,
+    mods: &[Mod],
+) -> Result<(), ValueFault>
+    requires { Rises attr_name touched.now }
+    ensures { Gives result (ended name.now (held own.now touched.now) mods.now) }
+{
+    let keeps = has_parts(alloc, own, touched, name.avas.as_slice())?;
+    refuse_if(!keeps, Refusal::NameValueGone)?;
+    let second = any_has_second(alloc, own, touched, mods)?;
+    refuse_if(second, Refusal::SecondValue)?;
+    let classes = count_held(alloc, own, touched, b"objectclass".as_slice())?;
+    refuse_if(classes == 0, Refusal::NoClass)
+}
