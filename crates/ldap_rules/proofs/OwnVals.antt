@@ -260,7 +260,7 @@ of_parts s [] = tt
 of_parts s (a ∷ avas) = (
   is_added s a.attr a.val (map (λ (b : Ava). Adds s b.attr b.val) avas) a (same_key a.attr.name a.attr.name refl) (same_key a.val.key a.val.key refl),
   all_mono (IsAdded (map (λ (b : Ava). Adds s b.attr b.val) avas)) (IsAdded (map (λ (b : Ava). Adds s b.attr b.val) (a ∷ avas)))
-  (λ b h. more_added (Adds s a.attr a.val ∷ []) (map (λ (c : Ava). Adds s c.attr c.val) avas) b (inr h)) avas (of_parts s avas),
+      (λ b h. more_added (Adds s a.attr a.val ∷ []) (map (λ (c : Ava). Adds s c.attr c.val) avas) b (inr h)) avas (of_parts s avas),
 )
 
 abbrev HasAdded : List Act → Csn × Rdn → Type 0
@@ -271,7 +271,7 @@ names_of_body c (Add parent rdn attrs) h = (all_of_attrs (stamp c 0) attrs rdn.a
 names_of_body c (Modify mods) h = tt
 names_of_body c (Ren rdn dropped) h = (
   all_mono (IsAdded (map (λ (a : Ava). Adds (stamp c 1) a.attr a.val) rdn.avas)) (IsAdded (body_acts c (Ren rdn dropped)))
-  (λ a k. more_added (map (λ (b : Ava). Deletes (stamp c 0) b.attr b.val) dropped) (map (λ (b : Ava). Adds (stamp c 1) b.attr b.val) rdn.avas) a (inr k)) rdn.avas (of_parts (stamp c 1) rdn.avas),
+      (λ a k. more_added (map (λ (b : Ava). Deletes (stamp c 0) b.attr b.val) dropped) (map (λ (b : Ava). Adds (stamp c 1) b.attr b.val) rdn.avas) a (inr k)) rdn.avas (of_parts (stamp c 1) rdn.avas),
   tt,
 )
 names_of_body c Del h = tt
