@@ -211,12 +211,11 @@ put_there has m mods = by (is_single m.attr.name) (is_modified m.attr mods) refl
 each_there : (has : Values) (given : List RawMod) (mods : List Mod) → AreMods given mods → AllByRecursion (λ (g : RawMod). is_modified (record { name = key_of g.name }) (written has mods) ≡ true) given
 each_there has [] mods h = tt
 each_there has (g ∷ given) [] h = absurd h
-each_there has (g ∷ given) (m ∷ mods) h =
-    (
-      subst (λ (n : List ℕ). is_modified (record { name = n }) (written has (m ∷ mods)) ≡ true) h.0.named (put_there has m (written has mods)),
-      all_mono (λ (g : RawMod). is_modified (record { name = key_of g.name }) (written has mods) ≡ true) (λ (g : RawMod). is_modified (record { name = key_of g.name }) (written has (m ∷ mods)) ≡ true)
+each_there has (g ∷ given) (m ∷ mods) h = (
+  subst (λ (n : List ℕ). is_modified (record { name = n }) (written has (m ∷ mods)) ≡ true) h.0.named (put_there has m (written has mods)),
+  all_mono (λ (g : RawMod). is_modified (record { name = key_of g.name }) (written has mods) ≡ true) (λ (g : RawMod). is_modified (record { name = key_of g.name }) (written has (m ∷ mods)) ≡ true)
       (λ g k. still_there has (record { name = key_of g.name }) m (written has mods) k) given (each_there has given mods h.1),
-    )
+)
 
 -- ---- it is fine
 
@@ -330,7 +329,7 @@ no_seconds name has mods h =
     by_fit (list_any (has_second has) mods) why.SecondValue _ tt h1 (λ single h2. single))
 
 modified : (v : DirectoryView) (given : List RawMod) (rdns : List Rdn) (change : Uid × Body) → modify_made v given rdns ≡ Ok change → IsModified v given rdns change
-unfolding modify_made, modifications
+unfolding modify_made modifications
 modified v given rdns change h =
     by_pass (entry_at v rdns) _ change h (λ u at h1.
     by_pass (coded (modifications (own_name v u) (own_values v u) given)) _ change h1 (λ ms c e.
