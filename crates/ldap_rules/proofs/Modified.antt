@@ -1,5 +1,5 @@
 -- The body of a modify: it passes `check` at a CSN above its entry, and carries the keys of its spellings.
-use Rattle.std.proofs.Common.{◌≡◌, ℕ, ◌+◌, ◌<◌, ◌≤◌, Bool, true, false, cond, not, ◌||◌, List, [], ◌∷◌, ◌++◌, map, length, Result, Ok, Err, refl, sym, ap, subst, ◌∙◌, arith, Option, Some, None, eq-eqb, nat_lt}
+use Rattle.std.proofs.Common.{◌≡◌, ℕ, suc, ◌+◌, ◌<◌, ◌≤◌, Bool, true, false, cond, not, ◌||◌, List, [], ◌∷◌, ◌++◌, map, length, Result, Ok, Err, refl, sym, ap, subst, ◌∙◌, arith, Option, Some, None, eq-eqb, nat_lt}
 use Rattle.std.specs.Prelude.{◌&&◌, ◌==◌, codes, filter, flat_map, fold, option_map, if◌then◌else◌}
 use Rattle.std.specs.List.{AllByRecursion, list_any, list_all}
 use Rattle.std.proofs.lemmas.Bool.Decides.{nat_tests}
@@ -20,7 +20,7 @@ use Rattle.repl_data.specs.declared.change.Change.{Change}
 use Rattle.repl_data.specs.declared.change.Suffix.{Suffix}
 use Rattle.repl_data.specs.declared.change.Malformed.TheVariants.{Rid, Sub, Order, TooMany, TooHeavy, Empty, DoubleKey, Derived}
 use Rattle.repl_data.specs.Order.{bytes_cmp, bytes_eq}
-use Rattle.repl_data.specs.Types.{is_derived_attribute, is_derived_value}
+use Rattle.repl_data.specs.Types.{is_among, derived_classes, is_derived_attribute, is_derived_value}
 use Rattle.repl_data.specs.Check.{fault_if, is_empty, falls, vals_rise, needs_values, adds_nothing, names_derived, weight, faults_of_frame, faults_of_body, fault_of}
 use Rattle.repl_data.specs.Closed.{is_sound, needed}
 use Rattle.repl_data.specs.Plain.{add_values, without_values, values_after}
@@ -107,7 +107,7 @@ mod_read given m h =
 
 -- ---- all of them
 
-AreMods : List RawMod → List Mod → Type 0
+abbrev AreMods : List RawMod → List Mod → Type 0
 AreMods [] [] = Unit {0}
 AreMods [] (m ∷ mods) = ⊥
 AreMods (g ∷ given) [] = ⊥
@@ -126,7 +126,7 @@ as_long : (given : List RawMod) (mods : List Mod) → AreMods given mods → len
 as_long [] [] h = refl
 as_long [] (m ∷ mods) h = absurd h
 as_long (g ∷ given) [] h = absurd h
-as_long (g ∷ given) (m ∷ mods) h = ap (λ n. n + 1) (as_long given mods h.1)
+as_long (g ∷ given) (m ∷ mods) h = ap suc (as_long given mods h.1)
 
 as_full : (given : List RawMod) (mods : List Mod) → AreMods given mods → is_empty given ≡ false → is_empty mods ≡ false
 as_full [] mods h n = absurd (not_both true refl n)
@@ -141,7 +141,7 @@ each_mod P f (g ∷ given) (m ∷ mods) h = (f g m h.0, each_mod P f given mods 
 
 -- ---- what is written of them
 
-IsWrittenSo : (Mod → Type 0) → Values → Mod → Type 0
+abbrev IsWrittenSo : (Mod → Type 0) → Values → Mod → Type 0
 IsWrittenSo P has m = P m × (is_single m.attr.name ≡ true → P (replaced has m.attr))
 
 all_written : (P : Mod → Type 0) (has : Values) (mods : List Mod) → AllByRecursion (IsWrittenSo P has) mods → AllByRecursion P (written has mods)
@@ -223,7 +223,7 @@ each_there has (g ∷ given) (m ∷ mods) h = (
 not_a_class : (t : AttrKey) (vals : List Val) → is_single t.name ≡ true → list_any (is_derived_value t) vals ≡ false
 unfolding is_derived_value
 not_a_class t [] s = refl
-not_a_class t (v ∷ vals) s = ap (λ b. (b && _) || list_any (is_derived_value t) vals) (other (bytes_eq t.name (codes "objectclass")) refl) ∙ not_a_class t vals s
+not_a_class t (v ∷ vals) s = ap (λ b. (b && is_among derived_classes v.key) || list_any (is_derived_value t) vals) (other (bytes_eq t.name (codes "objectclass")) refl) ∙ not_a_class t vals s
   where
     other : (b : Bool) → bytes_eq t.name (codes "objectclass") ≡ b → bytes_eq t.name (codes "objectclass") ≡ false
     other true e = absurd (not_both (is_single (codes "objectclass")) (subst (λ (n : List ℕ). is_single n ≡ true) (is_same t.name (codes "objectclass") e) s) refl)
@@ -489,3 +489,11 @@ modify_carries suffix xs given rdns change sound carried root h =
     subst CarriesKeys (sym m.body)
     (all_written (λ (n : Mod). IsOwnName n.attr × AreOwnVals n.attr n.vals) has m.mods
     (each_mod (IsWrittenSo (λ (n : Mod). IsOwnName n.attr × AreOwnVals n.attr n.vals) has) (λ g n r. ((r.own, r.vals), λ s. (r.own, own n.attr s))) given m.mods m.read))
+
+-- ITS BODY has modifications
+pub record IsModify (body : Body) : Type 0 where
+  pub mods : List Mod
+  pub is : body ≡ ModifyEntry mods
+
+pub modify_body : (v : DirectoryView) (given : List RawMod) (rdns : List Rdn) (change : Uid × Body) → modify_made v given rdns ≡ Ok change → IsModify change.1
+modify_body v given rdns change h = let m = modified v given rdns change h in record { mods = written (last v change.0 m.mods) m.mods; is = m.body }

@@ -45,7 +45,7 @@ light_as made change h =
     let same : m ≡ change = ap (λ (x : Body). (m.0, x)) body ∙ whole in
     (e ∙ ap Ok same, subst (λ (x : Uid × Body). nat_lt 2097152 (weight x.1) ≡ false) same light))))
 
-after_writes : {G : Type 0} (writes : Result (List Rdn) LdapResult) (f : List Rdn → Result (Uid × Body) LdapResult) (change : Uid × Body) → (writes >>= f >>= light_change) ≡ Ok change
+pub after_writes : {G : Type 0} (writes : Result (List Rdn) LdapResult) (f : List Rdn → Result (Uid × Body) LdapResult) (change : Uid × Body) → (writes >>= f >>= light_change) ≡ Ok change
     → ((rdns : List Rdn) → f rdns ≡ Ok change → nat_lt 2097152 (weight change.1) ≡ false → G) → G
 after_writes writes f change h g = let l = light_as (writes >>= f) change h in by_pass writes f change l.0 (λ rdns w e. g rdns e l.1)
 

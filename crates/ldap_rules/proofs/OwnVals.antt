@@ -381,7 +381,7 @@ starts_such P true suffix h = h
 starts_such P false suffix h = tt
 
 module _ (Q : AttrKey → Val → Type 0) (suffix : Suffix) (xs : List Change) (sound : list_all is_sound xs ≡ true) (given : AllByRecursion (ChangeGives Q) xs) (start : AllByRecursion (Gives Q) (suffix_acts suffix)) where
-  own_acts : Uid → List Act
+  abbrev own_acts : Uid → List Act
   own_acts u = starts (uid_eq u suffix_id) suffix ++ acts_of (of_entry xs u)
 
   all_names : (u : Uid) → AllByRecursion (HasAdded (own_acts u)) (own_names xs u)

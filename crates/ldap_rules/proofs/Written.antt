@@ -1,5 +1,5 @@
 -- What stands where the rules write.
-use Rattle.std.proofs.Common.{◌≡◌, ℕ, zero, suc, true, false, not, ◌&&◌, List, [], ◌∷◌, take, refl, sym, ap, subst, Result, Ok, Err, Option, Some, None, nat_lt}
+use Rattle.std.proofs.Common.{◌≡◌, ℕ, zero, suc, true, false, not, ◌&&◌, List, [], ◌∷◌, take, refl, sym, ap, subst, ◌∙◌, Result, Ok, Err, Option, Some, None, nat_lt}
 use Rattle.std.specs.Prelude.{is_some, option_map}
 use Rattle.std.specs.List.{AllByRecursion, list_any}
 use Rattle.repl_data.specs.declared.csn.Csn.{Csn}
@@ -185,5 +185,5 @@ unfolding with_name
 written_carries v target body law a =
     let w = a.written in
     let r : AreReadable (w.rdn ∷ w.rest) = first_readable w.name.rdns w.rdn w.rest w.first (law a.object w.name w.read) in
-    let parts : AllByRecursion IsReadablePart w.rdn.avas = each_readable w.rdn.avas r.1.0 in
+    let parts : AllByRecursion IsReadablePart w.rdn.avas = each_readable w.rdn.avas r.1 in
     subst CarriesKeys (sym w.is) (parts, parts_own w.attrs w.rdn.avas parts (attributes_own [] w.attrs a.given w.listed tt))

@@ -4,3 +4,5 @@ pub mod Holder
 pub mod Added
 pub mod Effect
 pub mod Accepted
+pub mod Modifies
+pub mod AcceptedMods
