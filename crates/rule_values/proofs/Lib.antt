@@ -1,0 +1,5 @@
+pub mod Places
+pub mod Counts
+pub mod InTurn
+pub mod SetLemmas
+pub mod ModSteps

@@ -56,21 +56,17 @@ read_mod given =
 -- a value that is added is not held, and one that is deleted is, or the attribute where it goes whole
 abbrev pub fits : ModKind → List Val → List Val → Result (Unit {0}) Refusal
 fits AddValues vals had = refuse_if (list_any (λ (v : Val). has_key v.key had) vals) HeldAlready
-fits Delete [] had = refuse_if (is_empty had) NotHeld
-fits Delete (v ∷ vals) had = refuse_if (not (list_all (λ (w : Val). has_key w.key had) (v ∷ vals))) NotHeld
+fits Delete vals had = refuse_if (if is_empty vals then is_empty had else not (list_all (λ (v : Val). has_key v.key had) vals)) NotHeld
 fits Replace vals had = Ok tt
 
--- ONE MODIFICATION of an entry that has these values
-unfoldable pub step : Values → RawMod → Result Mod Refusal
-step has given =
-    read_mod given >>= λ m.
-    fits m.kind m.vals (has m.attr.name) >>= λ _.
-    Ok m
-
--- ALL OF THEM, each on what the earlier ones left
+-- THE MODIFICATIONS, each on what the earlier ones left
 unfoldable pub carried : Values → List RawMod → Result (List Mod) Refusal
 carried has [] = Ok []
-carried has (given ∷ more) = step has given >>= λ m. carried (after has m) more >>= λ mods. Ok (m ∷ mods)
+carried has (given ∷ more) =
+    read_mod given >>= λ m.
+    fits m.kind m.vals (has m.attr.name) >>= λ _.
+    carried (after has m) more >>= λ mods.
+    Ok (m ∷ mods)
 
 -- ---- the entry after all of them
 

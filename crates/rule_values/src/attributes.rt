@@ -187,11 +187,7 @@ fn has_class(attrs: &[HeldAttr]) -> bool
 ///
 /// n values cost n times the logarithm of n comparisons, in whatever order they come.
 #[tactic(auto, unfolding(crate::specs::Listed::entry_attributes))]
-pub fn entry_attributes(
-    alloc: Global,
-    rdn: &Rdn,
-    given: &[RawAttr],
-) -> Result<AttrList, ValueFault>
+pub fn entry_attributes(alloc: Global, rdn: &Rdn, given: &[RawAttr]) -> Result<AttrList, ValueFault>
     ensures { Gives result (entry_attributes rdn.now given.now) }
 {
     let too_many = has_too_many(alloc, rdn, given)?;

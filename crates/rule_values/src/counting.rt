@@ -9,7 +9,6 @@ ghost use Rattle.repl_data.specs.Ordered.{Rises};
 ghost use Rattle.rule_values.specs.Listed.{is_name, attribute_count};
 ghost use Rattle.rule_values.specs.Counting.{own_key, put_key, counted_on};
 
-
 use attr_keys::{AttrKey, KeyFault, attr_key};
 use ldap_types::RawAttr;
 use repl_data::{Ava, Bytes, BytesList, NoMemory, Rdn, put_by_key};

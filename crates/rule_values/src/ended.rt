@@ -9,17 +9,12 @@ ghost use Rattle.rule_values.specs.Modify.{has_second, has_part, ended};
 
 use crate::case::refuse_if;
 use crate::fault::{Refusal, ValueFault};
-use crate::held::{count_held, is_held};
+use crate::held::{count_held, is_held, is_without};
 use crate::table::Table;
 use repl_data::{Ava, Mod, NoMemory, Rdn, Shown, is_single};
 use std::alloc::Global;
 
-fn has_part(
-    alloc: Global,
-    own: &[Shown],
-    touched: &Table,
-    ava: &Ava,
-) -> Result<bool, NoMemory>
+fn has_part(alloc: Global, own: &[Shown], touched: &Table, ava: &Ava) -> Result<bool, NoMemory>
     requires { Rises attr_name touched.now }
     ensures { IfOk result (λ has. has ≡ has_part (held own.now touched.now) ava.now) }
 {
@@ -28,12 +23,7 @@ fn has_part(
 }
 
 /// Whether the entry has the values of its name.
-fn has_parts(
-    alloc: Global,
-    own: &[Shown],
-    touched: &Table,
-    avas: &[Ava],
-) -> Result<bool, NoMemory>
+fn has_parts(alloc: Global, own: &[Shown], touched: &Table, avas: &[Ava]) -> Result<bool, NoMemory>
     requires { Rises attr_name touched.now }
     ensures { IfOk result (λ has. has ≡ list_all (has_part (held own.now touched.now)) avas.now) }
 {
@@ -45,12 +35,7 @@ fn has_parts(
     Ok(true)
 }
 
-fn has_second(
-    alloc: Global,
-    own: &[Shown],
-    touched: &Table,
-    m: &Mod,
-) -> Result<bool, NoMemory>
+fn has_second(alloc: Global, own: &[Shown], touched: &Table, m: &Mod) -> Result<bool, NoMemory>
     requires { Rises attr_name touched.now }
     ensures { IfOk result (λ has. has ≡ has_second (held own.now touched.now) m.now) }
 {
@@ -95,6 +80,6 @@ pub(crate) fn ended(
     refuse_if(!keeps, Refusal::NameValueGone)?;
     let second = any_has_second(alloc, own, touched, mods)?;
     refuse_if(second, Refusal::SecondValue)?;
-    let classes = count_held(alloc, own, touched, b"objectclass".as_slice())?;
-    refuse_if(classes == 0, Refusal::NoClass)
+    let none = is_without(alloc, own, touched, b"objectclass".as_slice())?;
+    refuse_if(none, Refusal::NoClass)
 }

@@ -17,31 +17,28 @@ ghost use Rattle.rule_values.specs.Listed.{has_key};
 ghost use Rattle.rule_values.specs.Modify.{shown_values};
 
 use crate::table::{HeldAttr, Table, take_values};
-use crate::val_set::ValSet;
+use crate::val_set::{ValSet, with_all};
 use repl_data::{AttrKey, NoMemory, Shown, ValList, found_by_key, same_bytes};
 use std::alloc::Global;
 
-/// Puts the values of an attribute that is shown, if it has this name.
-fn put_shown(vals: &mut ValSet, shown: &Shown, name: &[u8]) -> Result<(), NoMemory>
-    ensures { OnOk result (vals.new ≡ add_values (if bytes_eq shown.now.attr.name name.now then shown.now.vals else []) vals.old) }
+/// The values with those of an attribute that is shown, if it has this name.
+fn with_shown(before: ValSet, shown: &Shown, name: &[u8]) -> Result<ValSet, NoMemory>
+    ensures { IfOk result (λ vals. vals ≡ add_values (if bytes_eq shown.now.attr.name name.now then shown.now.vals else []) before) }
 {
     if same_bytes(shown.attr.name.as_slice(), name) {
-        vals.put_all(shown.vals.as_slice())?;
+        with_all(before, shown.vals.as_slice())
+    } else {
+        Ok(before)
     }
-    Ok(())
 }
 
 /// A copy of the values that are shown of the attribute with this name.
-pub(crate) fn shown_values(
-    alloc: Global,
-    own: &[Shown],
-    name: &[u8],
-) -> Result<ValSet, NoMemory>
+pub(crate) fn shown_values(alloc: Global, own: &[Shown], name: &[u8]) -> Result<ValSet, NoMemory>
     ensures { IfOk result (λ vals. vals ≡ shown_values own.now name.now) }
 {
     let mut vals = ValSet::new(alloc);
     for shown in own {
-        put_shown(&mut vals, shown, name)?;
+        vals = with_shown(vals, shown, name)?;
     }
     Ok(vals)
 }
@@ -69,6 +66,25 @@ pub(crate) fn count_held(
         None => {
             let vals = shown_values(alloc, own, name)?;
             Ok(vals.len())
+        }
+    }
+}
+
+/// Whether the entry has no value of an attribute.
+pub(crate) fn is_without(
+    alloc: Global,
+    own: &[Shown],
+    touched: &Table,
+    name: &[u8],
+) -> Result<bool, NoMemory>
+    requires { Rises attr_name touched.now }
+    ensures { IfOk result (λ is. is ≡ is_empty (held own.now touched.now name.now)) }
+{
+    match touched_at(touched, name) {
+        Some(attr) => Ok(attr.vals.is_empty()),
+        None => {
+            let vals = shown_values(alloc, own, name)?;
+            Ok(vals.is_empty())
         }
     }
 }

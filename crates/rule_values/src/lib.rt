@@ -5,13 +5,14 @@
 mod attributes;
 mod case;
 mod counting;
+mod ended;
 mod fault;
 mod held;
-mod ended;
 mod modify;
 mod read_mod;
-mod step;
 mod reading;
+mod spelled;
+mod step;
 mod table;
 mod val_set;
 mod written;

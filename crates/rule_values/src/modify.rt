@@ -4,9 +4,9 @@ ghost use Rattle.std.specs.Prelude.{◌≡◌, fold, IfOk, OnOk};
 ghost use Rattle.repl_data.specs.declared.change.Mod.{Mod};
 ghost use Rattle.repl_data.specs.Check.{is_empty};
 ghost use Rattle.repl_data.specs.Ordered.{Rises};
-ghost use Rattle.rule_values.specs.Having.{attr_name, held};
+ghost use Rattle.rule_values.specs.Having.{attr_name, held, step};
 ghost use Rattle.rule_values.specs.Refusing.{Gives};
-ghost use Rattle.rule_values.specs.Modify.{step, after, carried, modifications};
+ghost use Rattle.rule_values.specs.Modify.{after, carried, modifications};
 
 use crate::case::refuse_if;
 use crate::ended::ended;
@@ -23,7 +23,7 @@ use std::alloc::Global;
 const MOST_MODIFICATIONS: usize = 1000;
 
 /// Reads one modification and carries it out.
-#[tactic(auto, unfolding(crate::specs::Modify::step))]
+#[tactic(auto, unfolding(crate::specs::Having::step))]
 fn step(
     alloc: Global,
     own: &[Shown],

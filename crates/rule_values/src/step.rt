@@ -1,23 +1,23 @@
 //! One modification of the values that an entry has.
 
-ghost use Rattle.std.specs.Prelude.{◌≡◌, not, IfOk, OnOk};
+ghost use Rattle.std.specs.Prelude.{◌≡◌, not, IfOk, OnOk, if◌then◌else◌};
 ghost use Rattle.std.specs.List.{list_any, list_all};
 ghost use Rattle.repl_data.specs.declared.change.Mod.{Mod};
 ghost use Rattle.repl_data.specs.declared.change.Val.{Val};
 ghost use Rattle.repl_data.specs.declared.change.ModKind.TheVariants.{Delete};
+ghost use Rattle.repl_data.specs.Check.{is_empty};
 ghost use Rattle.repl_data.specs.Ordered.{Rises};
 ghost use Rattle.repl_data.specs.Plain.{values_after, without_values};
 ghost use Rattle.rule_values.specs.Having.{attr_name, val_key, held};
 ghost use Rattle.rule_values.specs.Listed.{has_key};
-ghost use Rattle.rule_values.specs.Refusing.{refuse_if, Gives};
-ghost use Rattle.rule_values.specs.declared.fault.Refusal.TheVariants.{NotHeld};
+ghost use Rattle.rule_values.specs.Refusing.{Gives};
 ghost use Rattle.rule_values.specs.Modify.{fits, after};
 
 use crate::case::refuse_if;
 use crate::fault::{Refusal, ValueFault};
 use crate::held::take_held;
 use crate::table::{Table, put_attribute};
-use crate::val_set::ValSet;
+use crate::val_set::{ValSet, with_all};
 use repl_data::{AttrKey, Mod, ModKind, NoMemory, Shown, Val};
 use std::alloc::Global;
 
@@ -33,13 +33,23 @@ fn all_are_held(vals: &[Val], had: &ValSet) -> bool
     vals.iter().all(|v| had.has(v.key.as_slice()))
 }
 
-/// Whether there is what goes: the values, or the whole attribute where none is named.
-fn is_there(vals: &[Val], had: &ValSet) -> bool
-    ensures { fits Delete vals.now had.now ≡ refuse_if (not result) NotHeld }
+fn is_empty(vals: &[Val]) -> bool
+    ensures { result ≡ is_empty vals.now }
 {
     match vals.first() {
-        Some(_) => all_are_held(vals, had),
-        None => had.len() > 0,
+        Some(_) => false,
+        None => true,
+    }
+}
+
+/// Whether there is not what goes: one of the values, or the attribute where none is named.
+fn is_missing(vals: &[Val], had: &ValSet) -> bool
+    ensures { result ≡ (if is_empty vals.now then is_empty had.now else not (list_all (λ (v : Val). has_key v.key had.now) vals.now)) }
+{
+    if is_empty(vals) {
+        had.is_empty()
+    } else {
+        !all_are_held(vals, had)
     }
 }
 
@@ -49,7 +59,7 @@ fn fits(m: &Mod, had: &ValSet) -> Result<(), ValueFault>
 {
     match m.kind {
         ModKind::Add => refuse_if(any_is_held(m.vals.as_slice(), had), Refusal::HeldAlready),
-        ModKind::Delete => refuse_if(!is_there(m.vals.as_slice(), had), Refusal::NotHeld),
+        ModKind::Delete => refuse_if(is_missing(m.vals.as_slice(), had), Refusal::NotHeld),
         ModKind::Replace => Ok(()),
     }
 }
@@ -69,9 +79,10 @@ fn without(vals: &[Val], had: ValSet) -> ValSet
 fn deleted(alloc: Global, vals: &[Val], had: ValSet) -> ValSet
     ensures { result ≡ values_after Delete vals.now had }
 {
-    match vals.first() {
-        Some(_) => without(vals, had),
-        None => ValSet::new(alloc),
+    if is_empty(vals) {
+        ValSet::new(alloc)
+    } else {
+        without(vals, had)
     }
 }
 
@@ -81,17 +92,9 @@ fn values_after(alloc: Global, m: &Mod, had: ValSet) -> Result<ValSet, NoMemory>
     ensures { IfOk result (λ vals. vals ≡ values_after m.now.kind m.now.vals had) }
 {
     match m.kind {
-        ModKind::Add => {
-            let mut vals = had;
-            vals.put_all(m.vals.as_slice())?;
-            Ok(vals)
-        }
+        ModKind::Add => with_all(had, m.vals.as_slice()),
         ModKind::Delete => Ok(deleted(alloc, m.vals.as_slice(), had)),
-        ModKind::Replace => {
-            let mut vals = ValSet::new(alloc);
-            vals.put_all(m.vals.as_slice())?;
-            Ok(vals)
-        }
+        ModKind::Replace => with_all(ValSet::new(alloc), m.vals.as_slice()),
     }
 }
 

@@ -14,17 +14,11 @@ use std::alloc::Global;
 fn is_modified(attr: &AttrKey, mods: &[Mod]) -> bool
     ensures { result ≡ is_modified attr.now mods.now }
 {
-    mods.iter()
-        .any(|m| same_bytes(m.attr.name.as_slice(), attr.name.as_slice()))
+    mods.iter().any(|m| same_bytes(m.attr.name.as_slice(), attr.name.as_slice()))
 }
 
 /// The replace of the modified attribute by the values that it has at the end.
-fn replaced(
-    alloc: Global,
-    own: &[Shown],
-    touched: &Table,
-    m: Mod,
-) -> Result<Mod, NoMemory>
+fn replaced(alloc: Global, own: &[Shown], touched: &Table, m: Mod) -> Result<Mod, NoMemory>
     requires { Rises attr_name touched.now }
     ensures { IfOk result (λ r. r ≡ replaced (held own.now touched.now) m.attr) }
 {
