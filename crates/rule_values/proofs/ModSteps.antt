@@ -1,5 +1,5 @@
 -- What modifications do to what an entry has, step by step.
-use Rattle.std.proofs.Common.{◌≡◌, ℕ, ◌+◌, ◌<◌, ◌≤◌, Bool, true, false, cond, not, ◌||◌, ◌&&◌, List, [], ◌∷◌, ◌++◌, length, get_or, drop, refl, sym, ap, subst, ◌∙◌, Option, Some, None, Result, Ok, Err}
+use Rattle.std.proofs.Common.{◌≡◌, ℕ, ◌+◌, ◌<◌, ◌≤◌, Bool, true, false, cond, not, ◌||◌, ◌&&◌, List, [], ◌∷◌, ◌++◌, length, get_or, drop, refl, sym, ap, subst, ◌∙◌, Option, Some, None, Result, Ok, Err, nat_lt}
 use Rattle.std.specs.Prelude.{filter, find, fold, flat_map, is_some}
 use Rattle.std.specs.Option.{option_map_or}
 use Rattle.std.specs.List.{AllByRecursion, list_any, list_all}
@@ -12,6 +12,7 @@ use Rattle.repl_data.specs.declared.change.AttrKey.{AttrKey}
 use Rattle.repl_data.specs.declared.change.Val.{Val}
 use Rattle.repl_data.specs.declared.change.Attr.{Attr}
 use Rattle.repl_data.specs.declared.change.Mod.{Mod}
+use Rattle.repl_data.specs.declared.change.Rdn.{Rdn}
 use Rattle.repl_data.specs.declared.change.Shown.{Shown}
 use Rattle.repl_data.specs.declared.change.ModKind.TheVariants.{Delete}
 use Rattle.repl_data.specs.Check.{is_empty}
@@ -25,10 +26,11 @@ use Rattle.repl_data.proofs.Sound.{not_both}
 use Rattle.ldap_types.specs.declared.request.RawMod.{RawMod}
 use Rattle.rule_values.specs.declared.fault.Refusal.{Refusal}
 use Rattle.rule_values.specs.declared.fault.ValueFault.{ValueFault}
-use Rattle.rule_values.specs.Refusing.{◌>>=◌, Fails}
+use Rattle.rule_values.specs.declared.fault.Refusal.TheVariants.{NoModification, TooManyModifications}
+use Rattle.rule_values.specs.Refusing.{◌>>=◌, Fails, refuse_if}
 use Rattle.rule_values.specs.Having.{attr_name, held, step}
-use Rattle.rule_values.specs.Modify.{shown_values, after, read_mod, fits, carried}
-use Rattle.rule_values.specs.Written.{Values, write_before, written}
+use Rattle.rule_values.specs.Modify.{shown_values, after, read_mod, fits, carried, ended, modifications}
+use Rattle.rule_values.specs.Written.{Values, written}
 use Rattle.rule_values.proofs.Places.{equal_key, above_others}
 use Rattle.rule_values.proofs.InTurn.{go_on, stop}
 use Rattle.rule_values.proofs.SetLemmas.{same_turned, is_other}
@@ -108,18 +110,18 @@ append_nil (x ∷ xs) = ap (λ r. x ∷ r) (append_nil xs)
 
 pub vals_found : (own : List Shown) (name : List ℕ) (touched : List Attr) → Rises attr_name touched → is_some (found name touched) ≡ true → vals_at name touched ≡ held own touched name
 vals_found own name [] r h = absurd (not_both false h refl)
-vals_found own name (a ∷ touched) r h = by (bytes_eq name a.attr.name) refl
+vals_found own name (a ∷ touched) r h = by (bytes_eq name a.attr.name) refl (vals_found own name touched r.1)
   where
-    by : (b : Bool) → bytes_eq name a.attr.name ≡ b → vals_at name (a ∷ touched) ≡ held own (a ∷ touched) name
-    by true e =
+    by : (b : Bool) → bytes_eq name a.attr.name ≡ b → (is_some (found name touched) ≡ true → vals_at name touched ≡ held own touched name) → vals_at name (a ∷ touched) ≡ held own (a ∷ touched) name
+    by true e more =
         let same : name ≡ a.attr.name = is_same name a.attr.name e in
         let none : vals_at name touched ≡ [] = above_others name touched (subst (λ (k : List ℕ). AllByRecursion (λ (z : Attr). bytes_cmp k z.attr.name ≡ Less) touched) (sym same) r.0) in
         ap (λ t. cond t a.vals [] ++ vals_at name touched) (same_turned a.attr.name name ∙ e) ∙ ap (λ w. a.vals ++ w) none ∙ append_nil a.vals
         ∙ ap (λ (o : Option Attr). option_map_or (λ (x : Attr). x.vals) o (shown_values own name)) (sym (find_step name a touched true e))
-    by false e =
+    by false e more =
         let p : found name (a ∷ touched) ≡ found name touched = find_step name a touched false e in
         ap (λ t. cond t a.vals [] ++ vals_at name touched) (same_turned a.attr.name name ∙ e)
-        ∙ vals_found own name touched r.1 (sym (ap is_some p) ∙ h)
+        ∙ more (sym (ap is_some p) ∙ h)
         ∙ ap (λ (o : Option Attr). option_map_or (λ (x : Attr). x.vals) o (shown_values own name)) (sym p)
 
 -- ---- the values that are shown, attribute by attribute
@@ -189,8 +191,8 @@ append_one : (xs : List Mod) (y : Mod) (ys : List Mod) → (xs ++ y ∷ []) ++ y
 append_one [] y ys = refl
 append_one (x ∷ xs) y ys = ap (λ (r : List Mod). x ∷ r) (append_one xs y ys)
 
-pub rest_first : (has : Values) (given : List RawMod) → rest_of has [] given ≡ carried has given
-rest_first has given = by (carried has given)
+pub rest_first : (has : Values) (mods : List Mod) (given : List RawMod) → mods ≡ [] → rest_of has mods given ≡ carried has given
+rest_first has mods given p = ap (λ (xs : List Mod). rest_of has xs given) p ∙ by (carried has given)
   where
     by : (r : Result (List Mod) Refusal) → (r >>= λ more. Ok ([] ++ more)) ≡ r
     by (Ok mods) = refl
@@ -238,29 +240,45 @@ pub after_more : (first has next : Values) (mods new : List Mod) (m : Mod) → h
 after_more first has next mods new m h n p =
     n ∙ ap (λ (x : Values). after x m) h ∙ sym (fold-append after first mods (m ∷ [])) ∙ ap (fold after first) (sym p)
 
--- ---- tests of all and of one, in turn
+pub after_none : (has : Values) (mods : List Mod) → mods ≡ [] → has ≡ fold after has mods
+after_none has mods p = ap (fold after has) (sym p)
 
-pub all_go : {X : Type 0} (q : X → Bool) (xs : List X) (i : ℕ) (x : X) (total : Bool) → i < length xs → x ≡ get_or xs i x → list_all q (drop i xs) ≡ total → q x ≡ true → list_all q (drop (i + 1) xs) ≡ total
-all_go q xs i x total l e so_far h =
-    sym (ap (λ b. b && list_all q (drop (i + 1) xs)) (ap q (sym e) ∙ h)) ∙ sym (at_drop_more (list_all q) xs i x l) ∙ so_far
+-- ---- all cases of a modify
 
-pub all_stop : {X : Type 0} (q : X → Bool) (xs : List X) (i : ℕ) (x : X) (total : Bool) → i < length xs → x ≡ get_or xs i x → list_all q (drop i xs) ≡ total → q x ≡ false → false ≡ total
-all_stop q xs i x total l e so_far h =
-    sym (ap (λ b. b && list_all q (drop (i + 1) xs)) (ap q (sym e) ∙ h)) ∙ sym (at_drop_more (list_all q) xs i x l) ∙ so_far
+abbrev finish : Rdn → Values → List Mod → Result (List Mod) Refusal
+finish name has mods = ended name has mods >>= λ _. Ok (written has mods)
 
-pub all_end : {X : Type 0} (q : X → Bool) (xs : List X) (i : ℕ) (total : Bool) → length xs ≤ i → list_all q (drop i xs) ≡ total → true ≡ total
-all_end q xs i total l so_far = sym (at_drop_all (list_all q) xs i l) ∙ so_far
+after_two : {A : Type 0} (r s : Result (Unit {0}) Refusal) (k : Result A Refusal) → r ≡ Ok tt → s ≡ Ok tt → (r >>= λ _. s >>= λ _. k) ≡ k
+after_two r s k a b = ap (λ (x : Result (Unit {0}) Refusal). x >>= λ _. s >>= λ _. k) a ∙ ap (λ (x : Result (Unit {0}) Refusal). x >>= λ _. k) b
 
-pub any_go : {X : Type 0} (q : X → Bool) (xs : List X) (i : ℕ) (x : X) (total : Bool) → i < length xs → x ≡ get_or xs i x → list_any q (drop i xs) ≡ total → q x ≡ false → list_any q (drop (i + 1) xs) ≡ total
-any_go q xs i x total l e so_far h =
-    sym (ap (λ b. b || list_any q (drop (i + 1) xs)) (ap q (sym e) ∙ h)) ∙ sym (at_drop_more (list_any q) xs i x l) ∙ so_far
+made_as : (name : Rdn) (own : List Shown) (given : List RawMod) → refuse_if (is_empty given) NoModification ≡ Ok tt → refuse_if (nat_lt 1000 (length given)) TooManyModifications ≡ Ok tt
+    → modifications name own given ≡ (carried (shown_values own) given >>= λ mods. finish name (fold after (shown_values own) mods) mods)
+unfolding modifications
+made_as name own given a b =
+    after_two (refuse_if (is_empty given) NoModification) (refuse_if (nat_lt 1000 (length given)) TooManyModifications) (carried (shown_values own) given >>= λ mods. finish name (fold after (shown_values own) mods) mods) a b
 
-pub any_stop : {X : Type 0} (q : X → Bool) (xs : List X) (i : ℕ) (x : X) (total : Bool) → i < length xs → x ≡ get_or xs i x → list_any q (drop i xs) ≡ total → q x ≡ true → true ≡ total
-any_stop q xs i x total l e so_far h =
-    sym (ap (λ b. b || list_any q (drop (i + 1) xs)) (ap q (sym e) ∙ h)) ∙ sym (at_drop_more (list_any q) xs i x l) ∙ so_far
+pub made_stops : (name : Rdn) (own : List Shown) (given : List RawMod) (touched : List Attr) (e : ValueFault) → refuse_if (is_empty given) NoModification ≡ Ok tt → refuse_if (nat_lt 1000 (length given)) TooManyModifications ≡ Ok tt
+    → touched ≡ [] → Fails e (carried (held own touched) given) → Fails e (modifications name own given)
+made_stops name own given touched e a b t h =
+    subst (Fails e) (sym (made_as name own given a b))
+    (stop (carried (shown_values own) given) e (λ mods. finish name (fold after (shown_values own) mods) mods) (subst (λ (ts : List Attr). Fails e (carried (held own ts) given)) t h))
 
-pub any_end : {X : Type 0} (q : X → Bool) (xs : List X) (i : ℕ) (total : Bool) → length xs ≤ i → list_any q (drop i xs) ≡ total → false ≡ total
-any_end q xs i total l so_far = sym (at_drop_all (list_any q) xs i l) ∙ so_far
+made_at : (name : Rdn) (own : List Shown) (given : List RawMod) (touched new : List Attr) (mods : List Mod) → refuse_if (is_empty given) NoModification ≡ Ok tt → refuse_if (nat_lt 1000 (length given)) TooManyModifications ≡ Ok tt
+    → touched ≡ [] → carried (held own touched) given ≡ Ok mods → held own new ≡ fold after (held own touched) mods → modifications name own given ≡ finish name (held own new) mods
+made_at name own given touched new mods a b t h w =
+    made_as name own given a b
+    ∙ ap (λ (r : Result (List Mod) Refusal). r >>= λ ms. finish name (fold after (shown_values own) ms) ms) (subst (λ (ts : List Attr). carried (held own ts) given ≡ Ok mods) t h)
+    ∙ ap (λ (has : Values). finish name has mods) (sym (subst (λ (ts : List Attr). held own new ≡ fold after (held own ts) mods) t w))
+
+pub made_ends : (name : Rdn) (own : List Shown) (given : List RawMod) (touched new : List Attr) (mods : List Mod) (e : ValueFault) → refuse_if (is_empty given) NoModification ≡ Ok tt → refuse_if (nat_lt 1000 (length given)) TooManyModifications ≡ Ok tt
+    → touched ≡ [] → carried (held own touched) given ≡ Ok mods → held own new ≡ fold after (held own touched) mods → Fails e (ended name (held own new) mods) → Fails e (modifications name own given)
+made_ends name own given touched new mods e a b t h w f =
+    subst (Fails e) (sym (made_at name own given touched new mods a b t h w)) (stop (ended name (held own new) mods) e (λ _. Ok (written (held own new) mods)) f)
+
+pub made_done : (name : Rdn) (own : List Shown) (given : List RawMod) (touched new : List Attr) (mods body : List Mod) → refuse_if (is_empty given) NoModification ≡ Ok tt → refuse_if (nat_lt 1000 (length given)) TooManyModifications ≡ Ok tt
+    → touched ≡ [] → carried (held own touched) given ≡ Ok mods → held own new ≡ fold after (held own touched) mods → ended name (held own new) mods ≡ Ok tt → body ≡ written (held own new) mods → modifications name own given ≡ Ok body
+made_done name own given touched new mods body a b t h w d is =
+    made_at name own given touched new mods a b t h w ∙ go_on (ended name (held own new) mods) tt (λ _. Ok (written (held own new) mods)) d ∙ ap Ok (sym is)
 
 -- ---- deletes by what they name
 

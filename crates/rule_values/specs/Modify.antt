@@ -77,12 +77,16 @@ has_part has a = has_key a.val.key (has a.attr.name)
 abbrev pub has_second : Values → Mod → Bool
 has_second has m = is_single m.attr.name && nat_lt 1 (length (has m.attr.name))
 
+-- no class is left (RFC 4512, section 2.4)
+unfoldable pub lacks_class : Values → Bool
+lacks_class has = is_empty (has (codes "objectclass"))
+
 -- it keeps the values of its name, at most one value of a single-valued type, and a class
 unfoldable pub ended : Rdn → Values → List Mod → Result (Unit {0}) Refusal
 ended name has mods =
     refuse_if (not (list_all (has_part has) name.avas)) NameValueGone >>= λ _.
     refuse_if (list_any (has_second has) mods) SecondValue >>= λ _.
-    refuse_if (is_empty (has (codes "objectclass"))) NoClass
+    refuse_if (lacks_class has) NoClass
 
 -- ---- WHAT IS WRITTEN of the modifications of an entry of this name, which shows these values. First case that fits
 

@@ -1,11 +1,11 @@
 //! What must stand when all modifications are carried out.
 
-ghost use Rattle.std.specs.Prelude.{◌≡◌, IfOk};
+ghost use Rattle.std.specs.Prelude.{◌≡◌, not, IfOk};
 ghost use Rattle.std.specs.List.{list_any, list_all};
 ghost use Rattle.repl_data.specs.Ordered.{Rises};
 ghost use Rattle.rule_values.specs.Having.{attr_name, held};
 ghost use Rattle.rule_values.specs.Refusing.{Gives};
-ghost use Rattle.rule_values.specs.Modify.{has_second, has_part, ended};
+ghost use Rattle.rule_values.specs.Modify.{has_second, has_part, lacks_class, ended};
 
 use crate::case::refuse_if;
 use crate::fault::{Refusal, ValueFault};
@@ -64,6 +64,25 @@ fn any_has_second(
     Ok(false)
 }
 
+/// Whether the entry lacks a value of its name.
+fn lacks_part(alloc: Global, own: &[Shown], touched: &Table, name: &Rdn) -> Result<bool, NoMemory>
+    requires { Rises attr_name touched.now }
+    ensures { IfOk result (λ lacks. lacks ≡ not (list_all (has_part (held own.now touched.now)) name.now.avas)) }
+{
+    let has = has_parts(alloc, own, touched, name.avas.as_slice())?;
+    Ok(!has)
+}
+
+/// Whether the entry has no class.
+#[tactic(auto, unfolding(crate::specs::Modify::lacks_class))]
+fn lacks_class(alloc: Global, own: &[Shown], touched: &Table) -> Result<bool, NoMemory>
+    requires { Rises attr_name touched.now }
+    ensures { IfOk result (λ lacks. lacks ≡ lacks_class (held own.now touched.now)) }
+{
+    let lacks = is_without(alloc, own, touched, b"objectclass".as_slice())?;
+    Ok(lacks)
+}
+
 /// The cases after all modifications.
 #[tactic(auto, unfolding(crate::specs::Modify::ended))]
 pub(crate) fn ended(
@@ -76,10 +95,11 @@ pub(crate) fn ended(
     requires { Rises attr_name touched.now }
     ensures { Gives result (ended name.now (held own.now touched.now) mods.now) }
 {
-    let keeps = has_parts(alloc, own, touched, name.avas.as_slice())?;
-    refuse_if(!keeps, Refusal::NameValueGone)?;
+    let gone = lacks_part(alloc, own, touched, name)?;
+    refuse_if(gone, Refusal::NameValueGone)?;
     let second = any_has_second(alloc, own, touched, mods)?;
     refuse_if(second, Refusal::SecondValue)?;
-    let none = is_without(alloc, own, touched, b"objectclass".as_slice())?;
-    refuse_if(none, Refusal::NoClass)
+    let bare = lacks_class(alloc, own, touched)?;
+    refuse_if(bare, Refusal::NoClass)?;
+    Ok(())
 }

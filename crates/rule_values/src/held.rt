@@ -62,7 +62,7 @@ pub(crate) fn count_held(
     ensures { IfOk result (λ count. count ≡ length (held own.now touched.now name.now)) }
 {
     match touched_at(touched, name) {
-        Some(attr) => Ok(attr.vals.len()),
+        Some(attr) => Ok(attr.values().len()),
         None => {
             let vals = shown_values(alloc, own, name)?;
             Ok(vals.len())
@@ -81,7 +81,7 @@ pub(crate) fn is_without(
     ensures { IfOk result (λ is. is ≡ is_empty (held own.now touched.now name.now)) }
 {
     match touched_at(touched, name) {
-        Some(attr) => Ok(attr.vals.is_empty()),
+        Some(attr) => Ok(attr.values().is_empty()),
         None => {
             let vals = shown_values(alloc, own, name)?;
             Ok(vals.is_empty())
@@ -101,7 +101,7 @@ pub(crate) fn is_held(
     ensures { IfOk result (λ is. is ≡ has_key key.now (held own.now touched.now name.now)) }
 {
     match touched_at(touched, name) {
-        Some(attr) => Ok(attr.vals.has(key)),
+        Some(attr) => Ok(attr.values().has(key)),
         None => {
             let vals = shown_values(alloc, own, name)?;
             Ok(vals.has(key))
@@ -120,7 +120,7 @@ pub(crate) fn copy_held(
     ensures { IfOk result (λ vals. vals ≡ held own.now touched.now name.now) }
 {
     match touched_at(touched, name) {
-        Some(attr) => attr.vals.to_list(alloc),
+        Some(attr) => attr.values().to_list(alloc),
         None => {
             let vals = shown_values(alloc, own, name)?;
             vals.into_list(alloc)

@@ -1,6 +1,6 @@
 //! The modifications of a modify, each on the entry as the earlier ones left it.
 
-ghost use Rattle.std.specs.Prelude.{◌≡◌, fold, IfOk, OnOk};
+ghost use Rattle.std.specs.Prelude.{◌≡◌, fold, length, nat_lt, IfOk, OnOk};
 ghost use Rattle.repl_data.specs.declared.change.Mod.{Mod};
 ghost use Rattle.repl_data.specs.Check.{is_empty};
 ghost use Rattle.repl_data.specs.Ordered.{Rises};
@@ -69,6 +69,12 @@ fn is_empty(given: &[RawMod]) -> bool
     }
 }
 
+fn has_too_many(given: &[RawMod]) -> bool
+    ensures { result ≡ nat_lt 1000 (length given.now) }
+{
+    given.len() > MOST_MODIFICATIONS
+}
+
 /// What is written of the modifications of an entry (RFC 4511, section 4.6), which has the name and shows the values
 /// `own`: the modifications in their order, each with its values in order of key; but all of one single-valued type
 /// become one replace, by the value that the entry has at the end or by none, in the place of the last of them.
@@ -95,10 +101,7 @@ pub fn modifications(
     ensures { Gives result (modifications name.now own.now given.now) }
 {
     refuse_if(is_empty(given), Refusal::NoModification)?;
-    refuse_if(
-        given.len() > MOST_MODIFICATIONS,
-        Refusal::TooManyModifications,
-    )?;
+    refuse_if(has_too_many(given), Refusal::TooManyModifications)?;
     let mut touched = Table::new(alloc);
     let mods = carried(alloc, own, &mut touched, given)?;
     ended(alloc, own, &touched, name, mods.as_slice())?;

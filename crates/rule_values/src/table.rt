@@ -37,6 +37,12 @@ impl Keyed for HeldAttr {
 }
 
 impl HeldAttr {
+    pub(crate) fn values(&self) -> &ValSet
+        ensures { result.now ≡ self.now.vals }
+    {
+        &self.vals
+    }
+
     fn into_vals(self) -> ValSet
         ensures { result ≡ self.vals }
     {

@@ -6,7 +6,7 @@ use Rattle.rule_values.proofs.held.copy_held.Goals as goal
 
 pub returns-in-Some : goal.returns-in-Some
 returns-in-Some c =
-    subst (λ (vs : List Val). IfOk c.to_list.result (λ vals. vals ≡ vs)) (found_values c.args.own.now c.args.touched.now c.args.name.now c.in-Some.attr.now c.in-Some.ensures) c.to_list.ensures
+    subst (λ (vs : List Val). IfOk c.to_list.result (λ vals. vals ≡ vs)) (c.values.ensures ∙ found_values c.args.own.now c.args.touched.now c.args.name.now c.in-Some.attr.now c.in-Some.ensures) c.to_list.ensures
 
 pub returns-in_ok-vals-in-None : goal.returns-in_ok-vals-in-None
 returns-in_ok-vals-in-None c =

@@ -16,7 +16,7 @@ returns-then-is_touched-clause-value c =
 pub returns-else-is_touched-clause-value : goal.returns-else-is_touched-clause-value
 returns-else-is_touched-clause-value c =
     subst (λ (vs : List Val). IfOk c.shown_values.result (λ vals. vals ≡ vs))
-    (ap (shown_values c.args.own.now) c.as_slice-2.ensures
+    (ap (shown_values c.args.own.now) c.as_slice-else-is_touched.ensures
     ∙ not_found_values c.args.own.now c.args.touched.now c.args.attr.now.name
     (none_found (find (λ (a : Attr). bytes_eq c.args.attr.now.name a.attr.name) c.args.touched.now)
     (sym (ap (λ k. is_some (find (λ (a : Attr). bytes_eq k a.attr.name) c.args.touched.now)) c.as_slice.ensures) ∙ sym c.is_touched.ensures ∙ c.if-is_touched.false)))

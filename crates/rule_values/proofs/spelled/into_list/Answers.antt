@@ -27,4 +27,4 @@ returns-clause-rises c =
     (sym (sym (append-nil c.loop-bytes.vals)
     ∙ ap (λ (es : List (Vec ℕ Global × List ℕ)). c.loop-bytes.vals ++ vals_of es) (sym c.in-None.ensures.steps.0)
     ∙ c.loop-bytes.invariant))
-    (vals_rise c.args.spelled.entries c.len-_count.ensures.ordered)
+    (vals_rise c.args.spelled.entries c.len-count.ensures.ordered)

@@ -5,6 +5,6 @@ use Rattle.rule_values.proofs.table.to_attributes.Goals as goal
 
 pub returns : goal.returns
 returns c =
-    let end = YieldsList-end (YieldsList-from_vec {s = c.into_iter-held-iterator.result} c.into_vec.result.items (search rules) (search rules))
+    let end = YieldsList-end (YieldsList-from_vec {s = c.into_iter-held-iterator.result} c.into_vec-held-items.result.items (search rules) (search rules))
     c.loop-held.yielded c.loop-held.held-iterator c.loop-held.yielded_by c.next.result c.next.new.self c.in-None.is c.next.ensures.steps in
-    c.loop-held.invariant ∙ sym (map-id c.loop-held.yielded) ∙ end.0 ∙ c.into_vec.ensures
+    c.loop-held.invariant ∙ sym (map-id c.loop-held.yielded) ∙ end.0 ∙ c.into_vec-held-items.ensures
