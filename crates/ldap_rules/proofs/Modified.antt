@@ -29,7 +29,7 @@ use Rattle.repl_data.specs.Order.{stamp, zero_csn}
 use Rattle.repl_data.specs.View.{DirectoryView, put_val, view_of}
 use Rattle.repl_data.proofs.InOrder.{is_equal}
 use Rattle.repl_data.proofs.Raised.{same_attr}
-use Rattle.repl_data.proofs.Sound.{neither, not_both}
+use Rattle.repl_data.proofs.Sound.{neither, not_both, not_false}
 use Rattle.attr_keys.specs.Table.{key_of, is_single}
 use Rattle.dn_text.specs.Laws.{IsReadablePart}
 use Rattle.ldap_types.specs.declared.request.RawMod.{RawMod}
@@ -60,17 +60,18 @@ done = tt
 
 -- ---- one modification as it is read
 
-record IsFine (m : Mod) : Type 0 where
-  full : adds_nothing m ≡ false
-  rises : vals_rise m.vals ≡ true
-  plain : is_derived_attribute m.attr ≡ false
-  underived : list_any (is_derived_value m.attr) m.vals ≡ false
+pub record IsFine (m : Mod) : Type 0 where
+  pub full : adds_nothing m ≡ false
+  pub rises : vals_rise m.vals ≡ true
+  pub plain : is_derived_attribute m.attr ≡ false
+  pub underived : list_any (is_derived_value m.attr) m.vals ≡ false
 
-record IsReadMod (given : RawMod) (m : Mod) : Type 0 where
-  fine : IsFine m
-  own : IsOwnName m.attr
-  vals : AreOwnVals m.attr m.vals
-  named : m.attr.name ≡ key_of given.name
+pub record IsReadMod (given : RawMod) (m : Mod) : Type 0 where
+  pub fine : IsFine m
+  pub order : Rises val_key m.vals
+  pub own : IsOwnName m.attr
+  pub vals : AreOwnVals m.attr m.vals
+  pub named : m.attr.name ≡ key_of given.name
 
 values_read : (attr : AttrKey) (before vals : List Val) (given : List (List ℕ)) → values_beside attr before given ≡ Ok vals → GoodVals attr before → GoodVals attr vals
 unfolding values_beside
@@ -100,6 +101,7 @@ mod_read given m h =
     let name = name_own given.name attr n in
     subst (IsReadMod given) (same_ok (record { kind = kind; attr = attr; vals = vals }) m e) (record {
       fine = record { full = filled kind attr vals given.vals some r; rises = rising vals good.0; plain = plain; underived = good.1 };
+      order = good.0;
       own = name.0;
       vals = values_own attr [] vals given.vals name.0 r tt;
       named = name.1;
@@ -107,7 +109,7 @@ mod_read given m h =
 
 -- ---- all of them
 
-abbrev AreMods : List RawMod → List Mod → Type 0
+abbrev pub AreMods : List RawMod → List Mod → Type 0
 AreMods [] [] = Unit {0}
 AreMods [] (m ∷ mods) = ⊥
 AreMods (g ∷ given) [] = ⊥
@@ -133,7 +135,7 @@ as_full [] mods h n = absurd (not_both true refl n)
 as_full (g ∷ given) [] h n = absurd h
 as_full (g ∷ given) (m ∷ mods) h n = refl
 
-each_mod : (P : Mod → Type 0) → ((g : RawMod) (m : Mod) → IsReadMod g m → P m) → (given : List RawMod) (mods : List Mod) → AreMods given mods → AllByRecursion P mods
+pub each_mod : (P : Mod → Type 0) → ((g : RawMod) (m : Mod) → IsReadMod g m → P m) → (given : List RawMod) (mods : List Mod) → AreMods given mods → AllByRecursion P mods
 each_mod P f [] [] h = tt
 each_mod P f [] (m ∷ mods) h = absurd h
 each_mod P f (g ∷ given) [] h = absurd h
@@ -141,10 +143,10 @@ each_mod P f (g ∷ given) (m ∷ mods) h = (f g m h.0, each_mod P f given mods 
 
 -- ---- what is written of them
 
-abbrev IsWrittenSo : (Mod → Type 0) → Values → Mod → Type 0
+abbrev pub IsWrittenSo : (Mod → Type 0) → Values → Mod → Type 0
 IsWrittenSo P has m = P m × (is_single m.attr.name ≡ true → P (replaced has m.attr))
 
-all_written : (P : Mod → Type 0) (has : Values) (mods : List Mod) → AllByRecursion (IsWrittenSo P has) mods → AllByRecursion P (written has mods)
+pub all_written : (P : Mod → Type 0) (has : Values) (mods : List Mod) → AllByRecursion (IsWrittenSo P has) mods → AllByRecursion P (written has mods)
 all_written P has [] h = tt
 all_written P has (m ∷ mods) h = by (is_single m.attr.name) refl (all_written P has mods h.1)
   where
@@ -237,18 +239,18 @@ few_rise (v ∷ w ∷ vals) h = absurd (not_both (nat_lt 1 (length (v ∷ w ∷ 
     many : (n : ℕ) → 1 < n → nat_lt 1 n ≡ true
     many n l = grind (arith, nat_tests)
 
-none_of : {X : Type 0} (q : X → Bool) (xs : List X) → list_any q xs ≡ false → AllByRecursion (λ x. q x ≡ false) xs
+pub none_of : {X : Type 0} (q : X → Bool) (xs : List X) → list_any q xs ≡ false → AllByRecursion (λ x. q x ≡ false) xs
 none_of q [] h = tt
 none_of q (x ∷ xs) h = let n = neither (q x) (list_any q xs) h in (n.0, none_of q xs n.1)
 
-both_all : {X : Type 0} (P Q : X → Type 0) (xs : List X) → AllByRecursion P xs → AllByRecursion Q xs → AllByRecursion (λ x. P x × Q x) xs
+pub both_all : {X : Type 0} (P Q : X → Type 0) (xs : List X) → AllByRecursion P xs → AllByRecursion Q xs → AllByRecursion (λ x. P x × Q x) xs
 both_all P Q [] p q = tt
 both_all P Q (x ∷ xs) p q = ((p.0, q.0), both_all P Q xs p.1 q.1)
 
-no_second : (has : Values) (m : Mod) → has_second has m ≡ false → is_single m.attr.name ≡ true → nat_lt 1 (length (has m.attr.name)) ≡ false
+pub no_second : (has : Values) (m : Mod) → has_second has m ≡ false → is_single m.attr.name ≡ true → nat_lt 1 (length (has m.attr.name)) ≡ false
 no_second has m h s = sym (ap (λ b. b && nat_lt 1 (length (has m.attr.name))) s) ∙ h
 
-fine_written : (has : Values) (mods : List Mod) → AllByRecursion IsFine mods → list_any (has_second has) mods ≡ false → AllByRecursion IsFine (written has mods)
+pub fine_written : (has : Values) (mods : List Mod) → AllByRecursion IsFine mods → list_any (has_second has) mods ≡ false → AllByRecursion IsFine (written has mods)
 fine_written has mods h n =
     all_written IsFine has mods
     (all_mono (λ (m : Mod). IsFine m × (has_second has m ≡ false)) (IsWrittenSo IsFine has)
@@ -310,25 +312,26 @@ modified_sound c u mods some few fine light drawn =
 
 -- ---- what the rules write
 
-abbrev last : DirectoryView → Uid → List Mod → Values
+abbrev pub last : DirectoryView → Uid → List Mod → Values
 last v u mods = fold after (shown_values (own_values v u)) mods
 
-record IsModified (v : DirectoryView) (given : List RawMod) (rdns : List Rdn) (change : Uid × Body) : Type 0 where
-  mods : List Mod
-  entry : entry_at v rdns ≡ Ok change.0
-  some : is_empty given ≡ false
-  count : nat_lt 1000 (length given) ≡ false
-  read : AreMods given mods
-  single : list_any (has_second (last v change.0 mods)) mods ≡ false
-  body : change.1 ≡ ModifyEntry (written (last v change.0 mods) mods)
+pub record IsModified (v : DirectoryView) (given : List RawMod) (rdns : List Rdn) (change : Uid × Body) : Type 0 where
+  pub mods : List Mod
+  pub entry : entry_at v rdns ≡ Ok change.0
+  pub some : is_empty given ≡ false
+  pub count : nat_lt 1000 (length given) ≡ false
+  pub read : AreMods given mods
+  pub kept : list_all (has_part (last v change.0 mods)) (own_name v change.0).avas ≡ true
+  pub single : list_any (has_second (last v change.0 mods)) mods ≡ false
+  pub body : change.1 ≡ ModifyEntry (written (last v change.0 mods) mods)
 
-no_seconds : (name : Rdn) (has : Values) (mods : List Mod) → ended name has mods ≡ Ok tt → list_any (has_second has) mods ≡ false
+well_ended : (name : Rdn) (has : Values) (mods : List Mod) → ended name has mods ≡ Ok tt → (list_all (has_part has) name.avas ≡ true) × (list_any (has_second has) mods ≡ false)
 unfolding ended
-no_seconds name has mods h =
+well_ended name has mods h =
     by_fit (not (list_all (has_part has) name.avas)) why.NameValueGone _ tt h (λ kept h1.
-    by_fit (list_any (has_second has) mods) why.SecondValue _ tt h1 (λ single h2. single))
+    by_fit (list_any (has_second has) mods) why.SecondValue _ tt h1 (λ single h2. (not_false (list_all (has_part has) name.avas) kept, single)))
 
-modified : (v : DirectoryView) (given : List RawMod) (rdns : List Rdn) (change : Uid × Body) → modify_made v given rdns ≡ Ok change → IsModified v given rdns change
+pub modified : (v : DirectoryView) (given : List RawMod) (rdns : List Rdn) (change : Uid × Body) → modify_made v given rdns ≡ Ok change → IsModified v given rdns change
 unfolding modify_made modifications
 modified v given rdns change h =
     by_pass (entry_at v rdns) _ change h (λ u at h1.
@@ -345,7 +348,8 @@ modified v given rdns change h =
       some = some;
       count = count;
       read = mods_read (shown_values (own_values v u)) given mods r;
-      single = no_seconds (own_name v u) (last v u mods) mods end;
+      kept = (well_ended (own_name v u) (last v u mods) mods end).0;
+      single = (well_ended (own_name v u) (last v u mods) mods end).1;
       body = ap ModifyEntry (sym (same_ok (written (last v u mods) mods) ms m4));
     }))))))))
 
@@ -489,11 +493,3 @@ modify_carries suffix xs given rdns change sound carried root h =
     subst CarriesKeys (sym m.body)
     (all_written (λ (n : Mod). IsOwnName n.attr × AreOwnVals n.attr n.vals) has m.mods
     (each_mod (IsWrittenSo (λ (n : Mod). IsOwnName n.attr × AreOwnVals n.attr n.vals) has) (λ g n r. ((r.own, r.vals), λ s. (r.own, own n.attr s))) given m.mods m.read))
-
--- ITS BODY has modifications
-pub record IsModify (body : Body) : Type 0 where
-  pub mods : List Mod
-  pub is : body ≡ ModifyEntry mods
-
-pub modify_body : (v : DirectoryView) (given : List RawMod) (rdns : List Rdn) (change : Uid × Body) → modify_made v given rdns ≡ Ok change → IsModify change.1
-modify_body v given rdns change h = let m = modified v given rdns change h in record { mods = written (last v change.0 m.mods) m.mods; is = m.body }

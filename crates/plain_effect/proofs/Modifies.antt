@@ -25,8 +25,6 @@ use Rattle.repl_data.proofs.Orders.{uid_total, uid_exact, split}
 use Rattle.repl_data.proofs.InOrder.{is_equal}
 use Rattle.repl_data.proofs.SameView.{map_both}
 use Rattle.repl_data.proofs.Sound.{not_both, not_true}
-use Rattle.ldap_rules.proofs.OwnNames.{all_mono, present_such}
-use Rattle.plain_effect.specs.Frame.{HasOtherValues}
 use Rattle.plain_effect.proofs.Holder.{entry_of_facts}
 use Rattle.repl_data.proofs.Steps.{flat_map-append, append_none, not_equal, entry_facts-other, entry_facts-own}
 
@@ -114,10 +112,10 @@ module _ (u : Uid) (f : List AttrFacts → List AttrFacts) where
 
   -- the values that its entry shows after it are g of those before
   module _ (g : List Attr → List Attr) where
-    abbrev ShowsSo : EntryFacts → Type 0
+    abbrev pub ShowsSo : EntryFacts → Type 0
     ShowsSo e = uid_eq e.id u ≡ true → attrs_shown (record e { attrs = f e.attrs }) ≡ g (attrs_shown e)
 
-    abbrev change : PresentEntry → PresentEntry
+    abbrev pub change : PresentEntry → PresentEntry
     change e = if uid_eq e.id u then record e { attrs = g e.attrs } else e
 
     one_shown : (p : List EntryFacts) (e : EntryFacts) → ShowsSo e → entry_of_facts (map t p) (t e) ≡ change (entry_of_facts p e)
@@ -164,7 +162,7 @@ module _ (suffix : Suffix) (xs : List Change) (c : Csn) (u : Uid) (mods : List M
   f = moved c mods
 
   -- where the values that its entry shows are those of a function of those before
-  changed : (g : List Attr → List Attr) → AllByRecursion (ShowsSo u f g) (present_of (all_facts suffix xs))
+  pub changed : (g : List Attr → List Attr) → AllByRecursion (ShowsSo u f g) (present_of (all_facts suffix xs))
       → record (view_of suffix xs) { present = map (change u f g) (view_of suffix xs).present } ≡ view_of suffix (xs ++ modifying c u mods ∷ [])
   changed g shows =
       let es : List EntryFacts = all_facts suffix xs in
@@ -178,24 +176,9 @@ module _ (suffix : Suffix) (xs : List Change) (c : Csn) (u : Uid) (mods : List M
       }))
 
   -- an entry is what the changes say of its id
-  abbrev IsOfId : EntryFacts → Type 0
+  abbrev pub IsOfId : EntryFacts → Type 0
   IsOfId e = e ≡ entry_facts suffix xs e.id
 
-  of_ids : (us : List Uid) → AllByRecursion IsOfId (map (entry_facts suffix xs) us)
+  pub of_ids : (us : List Uid) → AllByRecursion IsOfId (map (entry_facts suffix xs) us)
   of_ids [] = tt
   of_ids (w ∷ us) = (refl, of_ids us)
-
-  shows_after : (e : EntryFacts) → IsOfId e → ShowsSo u f (λ _. attrs_shown (record (entry_facts suffix xs u) { attrs = f (entry_facts suffix xs u).attrs })) e
-  shows_after e is s =
-      let same : e ≡ entry_facts suffix xs u = is ∙ ap (entry_facts suffix xs) (uid_exact e.id u (is_equal (uid_cmp e.id u) s)) in
-      ap (λ (x : EntryFacts). attrs_shown (record x { attrs = f x.attrs })) same
-
-  -- A MODIFY CHANGES THE VALUES OF ITS ENTRY, AND NOTHING ELSE
-  pub modify_frame : HasOtherValues (view_of suffix xs) u (view_of suffix (xs ++ modifying c u mods ∷ []))
-  modify_frame =
-      let values : List Attr = attrs_shown (record (entry_facts suffix xs u) { attrs = f (entry_facts suffix xs u).attrs }) in
-      let all : AllByRecursion IsOfId (present_of (all_facts suffix xs)) = present_such IsOfId (all_facts suffix xs) (of_ids (ids_known xs)) in
-      record {
-        attrs = values;
-        same = changed (λ _. values) (all_mono IsOfId (ShowsSo u f (λ _. values)) shows_after (present_of (all_facts suffix xs)) all);
-      }

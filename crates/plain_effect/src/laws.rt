@@ -17,7 +17,6 @@ ghost use Rattle.ldap_rules.specs.Add.{add_verdict};
 ghost use Rattle.ldap_rules.specs.Modify.{modify_verdict};
 ghost use Rattle.ldap_rules.specs.Laws.{change_at, needed_at, IsDrawnAbove};
 ghost use Rattle.plain_effect.specs.Above.{IsAbove};
-ghost use Rattle.plain_effect.specs.Frame.{HasOtherValues};
 
 /// An add that the rules accept, at a CSN above all changes of a closed set, has its plain effect: the view of
 /// the set with the change is the view before with one entry more, of the name and the values of the body.
@@ -27,10 +26,11 @@ pub fn add_effect_law()
         → plain_effect (view_of suffix xs) (change_at c None body) ≡ Some (view_of suffix (xs ++ change_at c None body ∷ [])) }
 {}
 
-/// A modify that the rules accept, at a CSN above all changes of a closed set, changes the values that its entry
-/// shows, and nothing else of the view: no other entry, no name, and nobody comes or goes.
-pub fn modify_frame_law()
+/// A modify that the rules accept, at a CSN above all changes of a closed set, has its plain effect: the view of the
+/// set with the change is the view before, but that its entry shows what the modifications of the body leave of its
+/// values, one after the other as RFC 4511, section 4.6 says it.
+pub fn modify_effect_law()
     ensures { (suffix : Suffix) (xs : List Change) (controls : List Control) (bound : Identity) (object : List ℕ) (given : List RawMod) (u : Uid) (body : Body) (c : Csn)
         → IsClosed xs → IsAbove c xs → modify_verdict (view_of suffix xs) controls bound object given ≡ Ok (u, body) → IsDrawnAbove c u
-        → HasOtherValues (view_of suffix xs) u (view_of suffix (xs ++ change_at c (Some u) body ∷ [])) }
+        → plain_effect (view_of suffix xs) (change_at c (Some u) body) ≡ Some (view_of suffix (xs ++ change_at c (Some u) body ∷ [])) }
 {}

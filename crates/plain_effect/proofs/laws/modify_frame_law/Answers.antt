@@ -1,5 +1,0 @@
-use Rattle.plain_effect.proofs.AcceptedMods.{accepted_frame}
-use Rattle.plain_effect.proofs.laws.modify_frame_law.Goals as goal
-
-pub returns : goal.returns
-returns c = λ suffix xs controls bound object given u body csn closed above h drawn. accepted_frame suffix xs controls bound object given u body csn closed above h drawn
