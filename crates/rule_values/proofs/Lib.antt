@@ -3,3 +3,4 @@ pub mod Counts
 pub mod InTurn
 pub mod SetLemmas
 pub mod ModSteps
+pub mod Effect

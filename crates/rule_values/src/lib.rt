@@ -8,6 +8,7 @@ mod counting;
 mod ended;
 mod fault;
 mod held;
+mod laws;
 mod modify;
 mod read_mod;
 mod reading;
@@ -19,5 +20,6 @@ mod written;
 
 pub use attributes::entry_attributes;
 pub use fault::{Refusal, ValueFault};
+pub use laws::written_laws;
 pub use modify::modifications;
 pub use reading::{read_name, read_value};

@@ -1,6 +1,6 @@
 //! One modification of the values that an entry has.
 
-ghost use Rattle.std.specs.Prelude.{◌≡◌, not, IfOk, OnOk, if◌then◌else◌};
+ghost use Rattle.std.specs.Prelude.{◌≡◌, [], not, IfOk, OnOk, if◌then◌else◌};
 ghost use Rattle.std.specs.List.{list_any, list_all};
 ghost use Rattle.repl_data.specs.declared.change.Mod.{Mod};
 ghost use Rattle.repl_data.specs.declared.change.Val.{Val};
@@ -75,12 +75,19 @@ fn without(vals: &[Val], had: ValSet) -> ValSet
     left
 }
 
+/// No value, in place of those that there were.
+fn cleared(alloc: Global, _had: ValSet) -> ValSet
+    ensures { result ≡ [] }
+{
+    ValSet::new(alloc)
+}
+
 /// The values without those that go, or none where none of them is named.
 fn deleted(alloc: Global, vals: &[Val], had: ValSet) -> ValSet
     ensures { result ≡ values_after Delete vals.now had }
 {
     if is_empty(vals) {
-        ValSet::new(alloc)
+        cleared(alloc, had)
     } else {
         without(vals, had)
     }
@@ -94,7 +101,7 @@ fn values_after(alloc: Global, m: &Mod, had: ValSet) -> Result<ValSet, NoMemory>
     match m.kind {
         ModKind::Add => with_all(had, m.vals.as_slice()),
         ModKind::Delete => Ok(deleted(alloc, m.vals.as_slice(), had)),
-        ModKind::Replace => with_all(ValSet::new(alloc), m.vals.as_slice()),
+        ModKind::Replace => with_all(cleared(alloc, had), m.vals.as_slice()),
     }
 }
 

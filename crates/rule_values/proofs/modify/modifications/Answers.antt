@@ -10,7 +10,7 @@ use Rattle.rule_values.proofs.modify.modifications.Goals as goal
 
 pub returns-in_err-mods : goal.returns-in_err-mods
 returns-in_err-mods c =
-    let p = err_from_is_err_and c.from_residual.result c.from_residual.ensures.1 in
+    let p = err_from_is_err_and c.from_residual-in_err-mods.result c.from_residual-in_err-mods.ensures.1 in
     rw (p.1, p.2) (made_stops c.args.name.now c.args.own.now c.args.given.now c.new-touched.result c.in_err-mods.field-0.0
     (ap (λ b. refuse_if b NoModification) (sym c.is_empty.ensures) ∙ c.in_ok-refuse_if.ensures)
     (ap (λ b. refuse_if b TooManyModifications) (sym c.has_too_many.ensures) ∙ c.in_ok-refuse_if-2.ensures)
@@ -18,7 +18,7 @@ returns-in_err-mods c =
 
 pub returns-in_err-ended : goal.returns-in_err-ended
 returns-in_err-ended c =
-    let p = err_from_is_err_and c.from_residual.result c.from_residual.ensures.1 in
+    let p = err_from_is_err_and c.from_residual-in_err-ended.result c.from_residual-in_err-ended.ensures.1 in
     rw (p.1, p.2) (made_ends c.args.name.now c.args.own.now c.args.given.now c.new-touched.result c.carried.new.touched c.in_ok-mods.mods c.in_err-ended.field-0.0
     (ap (λ b. refuse_if b NoModification) (sym c.is_empty.ensures) ∙ c.in_ok-refuse_if.ensures)
     (ap (λ b. refuse_if b TooManyModifications) (sym c.has_too_many.ensures) ∙ c.in_ok-refuse_if-2.ensures)
