@@ -7,7 +7,7 @@ use Rattle.io_edge.specs.declared.machine.Fed.TheVariants.{Running}
 use Rattle.conn_core.specs.declared.conn.Conn.{Conn}
 use Rattle.conn_core.specs.Stream.{IsStream, BeginsWith}
 use Rattle.conn_core.specs.Serving.{Reach, Session, AreServed}
-use Rattle.conn_core.specs.Feeding.{session, Carries, Feeds, FeedsInTurn, JoinsFeeds}
+use Rattle.conn_core.specs.Feeding.{session, Feeds, FeedsInTurn, JoinsFeeds}
 use Rattle.conn_core.proofs.Cuts.{may_be_cut}
 
 -- some requests, and then others

@@ -1,5 +1,5 @@
 -- What a request does, by the calls of a node, and what it is answered.
-use Rattle.std.specs.Prelude.{◌≡◌, ◌≤◌, ◌⊎◌, ℕ, ◌+◌, ◌-◌, ◌^◌, min, ◌==◌, Bool, true, false, not, ◌||◌, if◌then◌else◌, List, [], ◌∷◌, ◌++◌, Option, Some, None, Result, Ok, Err, codes}
+use Rattle.std.specs.Prelude.{◌≡◌, ◌⊎◌, ℕ, ◌+◌, ◌-◌, ◌^◌, min, ◌==◌, Bool, true, false, not, ◌||◌, if◌then◌else◌, List, [], ◌∷◌, ◌++◌, Option, Some, None, Result, Ok, Err, codes}
 use Rattle.repl_data.specs.declared.csn.Csn.{Csn}
 use Rattle.repl_data.specs.declared.items.NoMemory.{NoMemory}
 use Rattle.repl_data.specs.Order.{bytes_eq}
@@ -13,6 +13,8 @@ use Rattle.ldap_types.specs.declared.reply.LdapResult.{LdapResult}
 use Rattle.ldap_types.specs.declared.reply.Identity.{Identity}
 use Rattle.ldap_types.specs.declared.reply.Identity.TheVariants.{Anonymous}
 use Rattle.ldap_replies.specs.Form.{reply_bytes}
+use Rattle.conn_core.specs.declared.reply.OpKind.{OpKind}
+use Rattle.conn_core.specs.declared.reply.OpKind.TheVariants as kind
 use Rattle.ldap_rules.specs.Bind.{bind_verdict}
 use Rattle.ldap_rules.specs.Case.{result_of}
 use Rattle.node_core.specs.declared.fault.BeginFault.{BeginFault}
@@ -21,7 +23,6 @@ use Rattle.node_core.specs.declared.fault.CommitFault.{CommitFault}
 use Rattle.node_core.specs.declared.fault.CommitFault.TheVariants as commit
 use Rattle.node_core.specs.declared.ticket.Ticket.{Ticket}
 use Rattle.node_core.specs.declared.ticket.Receipt.{Receipt}
-use Rattle.node_core.specs.Node.{Node}
 use Rattle.node_core.specs.Answers.{used_up}
 use Rattle.node_core.specs.Steps.{judge_view, ended}
 use Rattle.node_core.specs.Calls.{Begins, Commits, CommitCause, is_client_write}
@@ -53,18 +54,34 @@ is_built r = is_answered r.op || is_client_write r
 
 -- ---- replies
 
--- the response to an operation with this result, where it has one (RFC 4511, sections 4.1.9, 4.3 and 4.11)
+-- WHICH OPERATION THIS IS: here, and nowhere else
+abbrev pub kind_of : Op → OpKind
+kind_of (op.Bind b) = kind.Bind
+kind_of op.Unbind = kind.Unbind
+kind_of (op.Search s) = kind.Search
+kind_of (op.Modify object mods) = kind.Modify
+kind_of (op.Add object attrs) = kind.Add
+kind_of (op.Delete object) = kind.Delete
+kind_of (op.Rename object new_rdn delete_old new_superior) = kind.Rename
+kind_of (op.Compare object name value) = kind.Compare
+kind_of (op.Abandon id) = kind.Abandon
+kind_of (op.Extended oid value) = kind.Extended
+
+-- the response to an operation of this kind with this result, where it has one (RFC 4511, sections 4.1.9, 4.3 and 4.11)
+abbrev pub response : OpKind → LdapResult → Option ReplyOp
+response kind.Bind result = Some (reply.Bind result)
+response kind.Unbind result = None
+response kind.Search result = Some (reply.Done result)
+response kind.Modify result = Some (reply.Modify result)
+response kind.Add result = Some (reply.Add result)
+response kind.Delete result = Some (reply.Delete result)
+response kind.Rename result = Some (reply.Rename result)
+response kind.Compare result = Some (reply.Compare result)
+response kind.Abandon result = None
+response kind.Extended result = Some (reply.Extended result None None)
+
 abbrev pub reply_to : Op → LdapResult → Option ReplyOp
-reply_to (op.Bind b) result = Some (reply.Bind result)
-reply_to op.Unbind result = None
-reply_to (op.Search s) result = Some (reply.Done result)
-reply_to (op.Modify object mods) result = Some (reply.Modify result)
-reply_to (op.Add object attrs) result = Some (reply.Add result)
-reply_to (op.Delete object) result = Some (reply.Delete result)
-reply_to (op.Rename object new_rdn delete_old new_superior) result = Some (reply.Rename result)
-reply_to (op.Compare object name value) result = Some (reply.Compare result)
-reply_to (op.Abandon id) result = None
-reply_to (op.Extended oid value) result = Some (reply.Extended result None None)
+reply_to o result = response (kind_of o) result
 
 -- the bytes of the reply with this id
 abbrev pub sent : ℕ → Option ReplyOp → List (List ℕ)

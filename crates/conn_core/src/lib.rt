@@ -18,3 +18,4 @@ pub use laws::{feed_laws, stream_laws};
 pub use ldap_types::{Bytes, Identity, NoMemory};
 pub use machine::NodeMachine;
 pub use queue::ReplyQueue;
+pub use reply::{OpKind, kind_of, response};

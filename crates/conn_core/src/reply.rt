@@ -3,14 +3,14 @@
 ghost use Rattle.std.specs.Prelude.{◌≡◌, ◌≢◌, ◌∷◌, ◌++◌, [], Some, IfOk, OnOk, OnErr, ◌||◌, ◌==◌};
 ghost use Rattle.ldap_rules.specs.Case.{result_of};
 ghost use Rattle.ldap_replies.specs.Form.{reply_bytes};
-ghost use Rattle.repl_data.specs.Order.{bytes_eq};
 ghost use Rattle.node_core.specs.Answers.{used_up};
 ghost use Rattle.conn_core.specs.Stream.{is_unbind};
-ghost use Rattle.conn_core.specs.Serving.{reply_to, is_session, notice, begin_result, commit_result, plain_code, count_starved, IsTold};
+ghost use Rattle.conn_core.specs.Serving.{kind_of, response, reply_to, is_session, notice, begin_result, commit_result, plain_code, count_starved, IsTold};
 
 use ldap_replies::write_reply;
 use ldap_types::{Bytes, Code, LdapResult, NoMemory, Op, Reply, ReplyOp};
 use node_core::{BeginFault, CommitFault, used_up};
+use repl_data::same_bytes;
 use std::alloc::Global;
 
 /// The names of the extended operations that open and close a session between servers.
@@ -21,6 +21,61 @@ const END_NAME: &[u8] = b"2.999.389.2";
 /// The name of the notice of disconnection (RFC 4511, section 4.4.1).
 const NOTICE_NAME: &[u8] = b"1.3.6.1.4.1.1466.20036";
 
+/// Which operation a client asks for. It decides the response.
+#[derive(Clone, Copy, Debug, Drop, Eq, PartialEq)]
+pub enum OpKind {
+    Bind,
+    Unbind,
+    Search,
+    Modify,
+    Add,
+    Delete,
+    Rename,
+    Compare,
+    Abandon,
+    Extended,
+}
+
+/// Which operation this is.
+pub fn kind_of(op: &Op) -> OpKind
+    ensures { result ≡ kind_of op.now }
+{
+    match op {
+        Op::Bind(_) => OpKind::Bind,
+        Op::Unbind => OpKind::Unbind,
+        Op::Search(_) => OpKind::Search,
+        Op::Modify { .. } => OpKind::Modify,
+        Op::Add { .. } => OpKind::Add,
+        Op::Delete { .. } => OpKind::Delete,
+        Op::Rename { .. } => OpKind::Rename,
+        Op::Compare { .. } => OpKind::Compare,
+        Op::Abandon { .. } => OpKind::Abandon,
+        Op::Extended { .. } => OpKind::Extended,
+    }
+}
+
+/// The response to an operation of this kind with this result (RFC 4511, sections 4.2 to 4.12). An
+/// unbind and an abandon have none.
+pub fn response(kind: OpKind, told: LdapResult) -> Option<ReplyOp>
+    ensures { result ≡ response kind told }
+{
+    match kind {
+        OpKind::Bind => Some(ReplyOp::Bind(told)),
+        OpKind::Unbind | OpKind::Abandon => None,
+        OpKind::Search => Some(ReplyOp::Done(told)),
+        OpKind::Modify => Some(ReplyOp::Modify(told)),
+        OpKind::Add => Some(ReplyOp::Add(told)),
+        OpKind::Delete => Some(ReplyOp::Delete(told)),
+        OpKind::Rename => Some(ReplyOp::Rename(told)),
+        OpKind::Compare => Some(ReplyOp::Compare(told)),
+        OpKind::Extended => Some(ReplyOp::Extended {
+            result: told,
+            oid: None,
+            value: None,
+        }),
+    }
+}
+
 /// A result that says its code alone.
 pub(crate) fn result_of(alloc: Global, code: Code) -> LdapResult
     ensures { result ≡ result_of code.number }
@@ -30,12 +85,6 @@ pub(crate) fn result_of(alloc: Global, code: Code) -> LdapResult
         matched: Bytes::new(alloc),
         text: Bytes::new(alloc),
     }
-}
-
-fn same_bytes(a: &[u8], b: &[u8]) -> bool
-    ensures { result ≡ bytes_eq a.now b.now }
-{
-    a.cmp(b).is_eq()
 }
 
 pub(crate) fn is_session(oid: &[u8]) -> bool
@@ -105,21 +154,7 @@ pub(crate) fn commit_result(alloc: Global, fault: CommitFault) -> Result<LdapRes
 pub(crate) fn reply_to(op: &Op, told: LdapResult) -> Option<ReplyOp>
     ensures { result ≡ reply_to op.now told }
 {
-    match op {
-        Op::Bind(_) => Some(ReplyOp::Bind(told)),
-        Op::Unbind | Op::Abandon { .. } => None,
-        Op::Search(_) => Some(ReplyOp::Done(told)),
-        Op::Modify { .. } => Some(ReplyOp::Modify(told)),
-        Op::Add { .. } => Some(ReplyOp::Add(told)),
-        Op::Delete { .. } => Some(ReplyOp::Delete(told)),
-        Op::Rename { .. } => Some(ReplyOp::Rename(told)),
-        Op::Compare { .. } => Some(ReplyOp::Compare(told)),
-        Op::Extended { .. } => Some(ReplyOp::Extended {
-            result: told,
-            oid: None,
-            value: None,
-        }),
-    }
+    response(kind_of(op), told)
 }
 
 /// The bytes of a reply.

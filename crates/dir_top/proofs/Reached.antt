@@ -2,7 +2,7 @@
 use Rattle.std.proofs.Common.{◌≡◌, ℕ, ◌+◌, ◌≤◌, Bool, true, false, not, ◌&&◌, ◌||◌, List, [], ◌∷◌, Option, Some, None, option_map, if◌then◌else◌, refl, sym, subst, ◌∙◌, arith, inl, inr, nat_lt, leb-true, length}
 use Rattle.std.specs.Prelude.{IfSome, IsSome, is_some, is_none}
 use Rattle.vector_core.proofs.Lists.{if_true, if_false}
-use Rattle.std.proofs.lemmas.Bool.{cases_Bool, and_parts, true≢false}
+use Rattle.std.proofs.lemmas.Bool.{cases_Bool, true≢false}
 use Rattle.ldap_types.specs.declared.request.Request.{Request}
 use Rattle.ldap_types.specs.declared.request.Op.{Op}
 use Rattle.ldap_types.specs.declared.request.Op.TheVariants as op
@@ -33,7 +33,7 @@ use Rattle.dir_top.specs.Message.{request_of, is_write}
 use Rattle.dir_top.specs.Client.{with_bytes}
 use Rattle.dir_top.specs.Serving.{Served, after_plain, after_write, serve_op, serve, serve_all, fed}
 use Rattle.dir_top.proofs.WritesAt.{write-node}
-use Rattle.dir_top.specs.Script.{is_built, is_write_to_come, is_one_write, TheNode, TheConnection, TheTicket, NewTicket, why_if, why_first, why_name, why_state, why_last, first_why, why_of, start_by, start_of, carried, goes_on, unless_refused, line_step, step_of, script_line, line_limit, length_limit}
+use Rattle.dir_top.specs.Script.{is_built, is_write_to_come, is_one_write, TheNode, TheConnection, TheTicket, NewTicket, why_if, why_first, why_name, why_state, why_at, why_last, first_why, why_of, start_by, start_of, carried, goes_on, unless_refused, line_step, step_of, script_line, line_limit, length_limit}
 use Rattle.dir_top.proofs.Leading.{leads-refl, leads-then, leads-event}
 
 -- ---- reasons that do not stand
@@ -156,16 +156,13 @@ module _ (s : State) (lawful : IsLawful s.world) where
   same = leads-refl judge_view s.world
 
   -- bytes: request by request
-  inputs : (c : ℕ) (bytes : List ℕ) (connection : Connection) → Carries s (fed s c bytes connection).0
-  inputs c bytes Closed = same
-  inputs c bytes (Open node instance client) =
-      elim (cases_Bool (is_node s.world node)) [
-        | inl t ↦
-            (let requests = (stream_of (with_bytes client bytes).held).requests in
-            let start : Served = record { world = s.world; bound = client.bound; replies = [] } in
-            subst (λ (r : State × List ℕ). Carries s r.0) (sym (if_true _ _ t)) (serves-lead node start requests lawful (is_node-means s.world node t)))
-        | inr f ↦ subst (λ (r : State × List ℕ). Carries s r.0) (sym (if_false _ _ f)) same
-      ]
+  inputs : (c : ℕ) (bytes : List ℕ) (connection : Connection) → why_at s connection ≡ None → Carries s (fed s c bytes connection).0
+  inputs c bytes Closed w = same
+  inputs c bytes (Open node instance client) w =
+      let there = not-false (is_node s.world node) (why_if-none (not (is_node s.world node)) (why.Node node) w) in
+      let requests = (stream_of (with_bytes client bytes).held).requests in
+      let start : Served = record { world = s.world; bound = client.bound; replies = [] } in
+      serves-lead node start requests lawful (is_node-means s.world node there)
 
   begins : (k c : ℕ) (request : Request) (connection : Connection) → ticket_in s.world k ≡ None → is_client_write request ≡ true → Carries s (start_by s k c request connection).0
   begins k c request Closed free built = same
@@ -180,7 +177,10 @@ module _ (s : State) (lawful : IsLawful s.world) where
   carries (line.Nodes n) b w = same
   carries (line.Clock time) b w = leads-event judge_view s.world (event.Clock time) tt
   carries (line.Connect c n) b w = same
-  carries (line.Input c bytes) b w = inputs c bytes (connection_in s c)
+  carries (line.Input c bytes) b w =
+      let l = line.Input c bytes in
+      let reasons = three_none (why_first (Some s) l) (why_name s (TheConnection c)) (why_last s l) w in
+      inputs c bytes (connection_in s c) reasons.1
   carries (line.StartWrite k c bytes) b w =
       let l = line.StartWrite k c bytes in
       let reasons = four_none (why_first (Some s) l) (why_name s (NewTicket k)) (why_name s (TheConnection c)) (why_last s l) w in

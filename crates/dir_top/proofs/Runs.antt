@@ -7,6 +7,7 @@ use Rattle.std.proofs.KnownBytes.{Appends-trans}
 use Rattle.std.proofs.Math.Seq.{drop-cons}
 use Rattle.std.proofs.lemmas.List.{append-nil, drop_all}
 use Rattle.std.proofs.lemmas.Bool.Decides.{eqb_tells}
+use Rattle.repl_data.proofs.Bools.{or_true}
 use Rattle.io_edge.specs.Edge.{AppendsFront}
 use Rattle.dir_top.specs.declared.state.State.{State}
 use Rattle.dir_top.specs.declared.exec.Script.{Script}
@@ -163,10 +164,6 @@ before_feed-last (b ∷ line) h =
 any_feed : (line : List ℕ) → list_any (λ b. b == 10) (line ++ 10 ∷ []) ≡ true
 any_feed [] = refl
 any_feed (b ∷ line) = rw (any_feed line) (or_true (b == 10))
-  where
-    or_true : (a : Bool) → (a || true) ≡ true
-    or_true true = refl
-    or_true false = refl
 
 pub content_of-ended : (line : List ℕ) → HasNoFeed line → content_of (line ++ 10 ∷ []) ≡ content_at true line
 content_of-ended line h = rw (any_feed line) (ap strip_carriage_return (before_feed-ended line h))

@@ -17,15 +17,15 @@ use Rattle.node_core.specs.Node.{Node}
 use Rattle.node_core.specs.Steps.{NoTicket, Full, Exhausted, judge_view, verdict_at, begin_answer, after_begin}
 use Rattle.node_core.specs.Calls.{CommitCause, CommitsUnder}
 use Rattle.world_core.specs.World.{World, node_in, with_node, put, begin_at}
-use Rattle.world_core.specs.Write.{busy, success, result_of as answer_result, written_from, write_in}
-use Rattle.world_core.specs.At.{At, reached, at_reach}
+use Rattle.world_core.specs.Write.{busy, success, written_from, write_in}
+use Rattle.world_core.specs.At.{At, at_reach}
 use Rattle.world_core.specs.Held.{answer_of}
 use Rattle.world_core.specs.Laws.{IsNode}
 use Rattle.world_core.proofs.Honest.{with-IsNode}
 use Rattle.world_core.proofs.Outcomes.{same_node}
 use Rattle.world_core.proofs.Failures.{fault-says}
-use Rattle.world_core.proofs.WriteSteps.{finish-committed, finish-refused, written-done}
-use Rattle.conn_core.specs.Serving.{Reach, IsBegun, IsCommitted, IsEnded, IsWritten, not_begun, settled, aborted, begin_result, commit_result}
+use Rattle.world_core.proofs.WriteSteps.{IsTold, finish-committed, finish-refused, written-done}
+use Rattle.conn_core.specs.Serving.{IsBegun, IsCommitted, IsEnded, IsWritten, not_begun, settled, aborted, begin_result, commit_result}
 
 -- no answer for want of memory
 abbrev pub IsNotStarved : LdapResult → Type 0
@@ -92,7 +92,7 @@ module _ (w : World) (n : ℕ) (request : Request) (bound : Identity) where
         rose q = omega arith
 
     -- the result is that of the definitions
-    has_answer : (fault : CommitFault) (result : LdapResult) → fault ≢ commit.KeeperFault → commit_result fault ≡ Some result → IsNotStarved result → IsSome (answer_of fault) × IfSome (answer_of fault) (λ a. result ≡ answer_result a)
+    has_answer : (fault : CommitFault) (result : LdapResult) → fault ≢ commit.KeeperFault → commit_result fault ≡ Some result → IsNotStarved result → IsSome (answer_of fault) × IfSome (answer_of fault) (λ a. IsTold a result)
     has_answer commit.NoMemory result k e fed = absurd (fed (ap (λ (r : LdapResult). r.code.number) (sym (some_same e))))
     has_answer (commit.Stale life node_life) result k e fed = absurd (none_some e)
     has_answer (commit.Refused answer) result k e fed = (refl, sym (some_same e))

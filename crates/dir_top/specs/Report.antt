@@ -3,8 +3,9 @@ use Rattle.std.specs.Prelude.{ℕ, List, [], ◌++◌, length, if◌then◌else�
 use Rattle.std.specs.List.{flat_map}
 use Rattle.ldap_types.specs.declared.reply.LdapResult.{LdapResult}
 use Rattle.ldap_types.specs.declared.reply.Reply.{Reply}
-use Rattle.ldap_types.specs.declared.reply.ReplyOp.TheVariants as reply
+use Rattle.ldap_types.specs.declared.reply.ReplyOp.{ReplyOp}
 use Rattle.ldap_replies.specs.Form.{reply_bytes}
+use Rattle.conn_core.specs.Serving.{response}
 use Rattle.world_core.specs.World.{used_up}
 use Rattle.world_core.specs.Write.{busy, success}
 use Rattle.world_core.specs.declared.event.Happened.{Happened}
@@ -29,23 +30,28 @@ out_line c r = reply_line c (reply_bytes r)
 abbrev pub closed_line : ℕ → List ℕ
 closed_line c = output_line (out.Closed c)
 
--- the reply to an add, with this message id
-abbrev pub add_reply : ℕ → LdapResult → Reply
-add_reply id result = record { id = id; op = reply.Add result }
+-- the reply with this message id, where there is one
+abbrev pub answer_line : ℕ → ℕ → Option ReplyOp → List ℕ
+answer_line c id None = []
+answer_line c id (Some op) = out_line c (record { id = id; op = op })
+
+-- the reply to the one who waits, with this result: the response to the operation that was asked for
+abbrev pub owed_line : Owed → LdapResult → List ℕ
+owed_line o result = answer_line o.connection o.id (response o.kind result)
 
 -- the reply to the write of a ticket, if its connection is still the same one
 abbrev pub reply_owed : State → Option Owed → LdapResult → List ℕ
 reply_owed s None result = []
-reply_owed s (Some o) result = if still_waits s o then out_line o.connection (add_reply o.id result) else []
+reply_owed s (Some o) result = if still_waits s o then owed_line o result else []
 
 -- ---- tickets
 
 -- `start K ..`, with a reply where no ticket was begun
-abbrev pub start_text : ℕ → ℕ → ℕ → Happened → List ℕ
-start_text k c id (what.Started csn) = output_line (out.Started k csn)
-start_text k c id what.Full = output_line (out.StartFull k) ++ out_line c (add_reply id busy)
-start_text k c id (what.Exhausted csn) = output_line (out.StartExhausted k csn) ++ out_line c (add_reply id used_up)
-start_text k c id _ = []
+abbrev pub start_text : Owed → Happened → List ℕ
+start_text o (what.Started csn) = output_line (out.Started o.ticket csn)
+start_text o what.Full = output_line (out.StartFull o.ticket) ++ owed_line o busy
+start_text o (what.Exhausted csn) = output_line (out.StartExhausted o.ticket csn) ++ owed_line o used_up
+start_text o _ = []
 
 -- `commit K ..`
 abbrev pub commit_text : ℕ → Happened → List ℕ

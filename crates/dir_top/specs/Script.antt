@@ -19,6 +19,7 @@ use Rattle.dir_top.specs.Client.{with_bytes, has_built}
 use Rattle.dir_top.specs.State.{new_state, connection_in, is_open, holds_part, opened, owed_for, without_owed}
 use Rattle.dir_top.specs.Message.{request_of, is_write}
 use Rattle.node_core.specs.Calls.{is_client_write}
+use Rattle.conn_core.specs.Serving.{kind_of}
 use Rattle.dir_top.specs.Serving.{fed}
 use Rattle.dir_top.specs.Report.{start_text, commit_text, settle_text, abort_text, acquire_text, release_text, offer_text, deliver_text, vector_text, dump_text}
 use Rattle.script_text.specs.Line.{line_of}
@@ -112,8 +113,14 @@ why_state k wanted None = None
 why_state k true (Some committed) = why_if (not committed) (why.State k)
 why_state k false (Some committed) = why_if committed (why.State k)
 
+-- the node of a connection has to exist. (It does: a connection is opened to a node, and no node goes.)
+abbrev pub why_at : State → Connection → Option LineWhy
+why_at s Closed = None
+why_at s (Open node instance client) = why_name s (TheNode node)
+
 -- what is looked at after the names
 abbrev pub why_last : State → Line → Option LineWhy
+why_last s (Input c bytes) = why_at s (connection_in s c)
 why_last s (StartWrite k c bytes) = why_if (not (is_one_write (request_of bytes)) || holds_part (connection_in s c)) why.Request
 why_last s (Commit k) = why_state k false (is_committed s k)
 why_last s (Settle k) = why_state k true (is_committed s k)
@@ -148,12 +155,16 @@ is_started _ = false
 abbrev pub owes : Happened → List Owed → Owed → List Owed
 owes happened owed o = if is_started happened then owed ++ o ∷ [] else owed
 
+-- who waits for a ticket of this write: the connection, its message id, and which write it is
+abbrev pub owed_to : ℕ → ℕ → ℕ → Request → Owed
+owed_to k c instance request = record { ticket = k; connection = c; instance = instance; id = request.id; kind = kind_of request.op }
+
 abbrev pub start_by : State → ℕ → ℕ → Request → Connection → State × List ℕ
 start_by s k c request Closed = (s, [])
 start_by s k c request (Open node instance client) =
     let o = step judge_view s.world (event.Start k node request client.bound) in (
-      record s { world = o.world; owed = owes o.happened s.owed (record { ticket = k; connection = c; instance = instance; id = request.id }) },
-      start_text k c request.id o.happened,
+      record s { world = o.world; owed = owes o.happened s.owed (owed_to k c instance request) },
+      start_text (owed_to k c instance request) o.happened,
     )
 
 abbrev pub start_of : State → ℕ → ℕ → Option Request → State × List ℕ

@@ -9,7 +9,7 @@ use Rattle.ldap_rules.specs.Bind.{bind_verdict}
 use Rattle.ldap_rules.specs.Case.{result_of}
 use Rattle.node_core.specs.Steps.{judge_view}
 use Rattle.node_core.specs.Calls.{is_client_write}
-use Rattle.world_core.specs.World.{World, is_node}
+use Rattle.world_core.specs.World.{World}
 use Rattle.world_core.specs.Write.{write_in}
 use Rattle.io_edge.specs.declared.machine.Fed.{Fed}
 use Rattle.io_edge.specs.declared.machine.Fed.TheVariants.{Running}
@@ -88,9 +88,7 @@ found s client = record { world = s.world; bound = client.bound; replies = [] }
 abbrev pub fed_by : State → ℕ → ℕ → ℕ → Client → Stream → State × List ℕ
 fed_by s c node instance client stream = fed_to s c node instance stream (serve_all node (found s client) stream.requests)
 
--- THE BYTES OF A LINE, on a connection (whose node is there)
+-- THE BYTES OF A LINE, on a connection
 abbrev pub fed : State → ℕ → List ℕ → Connection → State × List ℕ
 fed s c bytes Closed = (s, [])
-fed s c bytes (Open node instance client) =
-    if is_node s.world node then fed_by s c node instance (with_bytes client bytes) (stream_of (with_bytes client bytes).held)
-    else (with_connection s c Closed, [])
+fed s c bytes (Open node instance client) = fed_by s c node instance (with_bytes client bytes) (stream_of (with_bytes client bytes).held)

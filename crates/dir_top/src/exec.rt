@@ -27,6 +27,9 @@ use world_core::judge_laws;
 /// The greatest number of lines of a script.
 const LINE_LIMIT: u32 = 1_000_000;
 
+/// The greatest number of bytes of a line, before its line feed.
+const LENGTH_LIMIT: usize = 4_194_400;
+
 /// A script that is being read: the world so far, the part of a line that has come, and how many lines came before it.
 #[derive(Drop)]
 pub(crate) struct Script {
@@ -156,7 +159,7 @@ impl Script {
         if byte == b'\n' {
             return self.end_line(alloc, true, sink);
         }
-        if self.line.len() == 4_194_400 {
+        if self.line.len() == LENGTH_LIMIT {
             return Err(self.long_line());
         }
         let Ok(()) = self.line.push(byte) else {

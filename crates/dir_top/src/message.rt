@@ -1,12 +1,12 @@
 //! The one write of a `start`.
 
 ghost use Rattle.std.specs.Prelude.{◌≡◌, IfOk};
-ghost use Rattle.std.specs.List.{list_any};
-ghost use Rattle.ldap_rules.specs.Verdict.{is_update_control};
-ghost use Rattle.dir_top.specs.Message.{request_of, is_write_op, is_write};
+ghost use Rattle.dir_top.specs.Message.{request_of, is_write_kind, is_write};
 
+use conn_core::{OpKind, kind_of};
 use ldap_requests::{ReadFault, read_request};
-use ldap_types::{Control, Op, Request};
+use ldap_rules::{Identity, is_update};
+use ldap_types::Request;
 use repl_data::NoMemory;
 use std::alloc::Global;
 
@@ -28,27 +28,11 @@ pub(crate) fn request_of(alloc: Global, bytes: &[u8]) -> Result<Option<Request>,
     }
 }
 
-fn is_update_control(control: &Control) -> bool
-    ensures { result ≡ is_update_control control.now }
+fn is_write_kind(kind: OpKind) -> bool
+    ensures { result ≡ is_write_kind kind }
 {
-    control
-        .oid
-        .as_slice()
-        .cmp(b"2.999.389.3".as_slice())
-        .is_eq()
-}
-
-fn has_update_control(controls: &[Control]) -> bool
-    ensures { result ≡ list_any is_update_control controls.now }
-{
-    controls.iter().any(is_update_control)
-}
-
-fn is_write_op(op: &Op) -> bool
-    ensures { result ≡ is_write_op op.now }
-{
-    match op {
-        Op::Add { .. } | Op::Modify { .. } | Op::Delete { .. } | Op::Rename { .. } => true,
+    match kind {
+        OpKind::Add | OpKind::Modify | OpKind::Delete | OpKind::Rename => true,
         _ => false,
     }
 }
@@ -57,5 +41,5 @@ fn is_write_op(op: &Op) -> bool
 pub(crate) fn is_write(request: &Request) -> bool
     ensures { result ≡ is_write request.now }
 {
-    is_write_op(&request.op) && !has_update_control(request.controls.as_slice())
+    is_write_kind(kind_of(&request.op)) && !is_update(request, Identity::Supplier)
 }

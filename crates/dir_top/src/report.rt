@@ -2,16 +2,16 @@
 
 ghost use Rattle.std.specs.Prelude.{◌≡◌, ◌++◌, [], IfOk, OnOk};
 ghost use Rattle.std.specs.List.{flat_map};
-ghost use Rattle.world_core.specs.World.{used_up};
 ghost use Rattle.world_core.specs.Write.{busy, success};
 ghost use Rattle.script_text.specs.Print.{entry_lines};
 ghost use Rattle.script_text.specs.Output.{output_line, reply_line};
-ghost use Rattle.dir_top.specs.Report.{reply_lines, closed_line, out_line, add_reply, reply_owed, start_text, commit_text, settle_text, reply_failed, abort_text, acquire_text, release_text, offer_text, deliver_text, vector_text, dump_text};
+ghost use Rattle.dir_top.specs.Report.{reply_lines, closed_line, out_line, answer_line, owed_line, reply_owed, start_text, commit_text, settle_text, reply_failed, abort_text, acquire_text, release_text, offer_text, deliver_text, vector_text, dump_text};
 
 use crate::state::{Owed, State};
-use conn_core::Conn;
+use conn_core::{Conn, response};
 use ldap_replies::write_reply;
 use ldap_types::{Code, LdapResult, Reply, ReplyOp};
+use node_core::used_up;
 use repl_data::{Bytes, Csn, NoMemory, ShownEntry};
 use script_text::{OutputLine, print_entry, print_line, print_reply, print_vector};
 use std::alloc::Global;
@@ -57,17 +57,22 @@ fn out_line(alloc: Global, c: u16, reply: &Reply) -> Result<Bytes, NoMemory>
     Ok(text)
 }
 
-fn out_add(alloc: Global, c: u16, id: u32, answer: LdapResult) -> Result<Bytes, NoMemory>
-    ensures { IfOk result (λ text. text ≡ out_line c (add_reply id answer)) }
+/// The reply with this message id as a line, where there is one.
+fn answer_line(alloc: Global, c: u16, id: u32, op: Option<ReplyOp>) -> Result<Bytes, NoMemory>
+    ensures { IfOk result (λ text. text ≡ answer_line c id op) }
 {
-    out_line(
-        alloc,
-        c,
-        &Reply {
-            id,
-            op: ReplyOp::Add(answer),
-        },
-    )
+    match op {
+        Some(op) => out_line(alloc, c, &Reply { id, op }),
+        None => Ok(Bytes::new(alloc)),
+    }
+}
+
+/// The reply to the one who waits, by the operation that was asked for.
+fn owed_line(alloc: Global, owed: Owed, answer: LdapResult) -> Result<Bytes, NoMemory>
+    ensures { IfOk result (λ text. text ≡ owed_line owed answer) }
+{
+    let op = response(owed.kind, answer);
+    answer_line(alloc, owed.connection, owed.id, op)
 }
 
 fn plain_result(alloc: Global, code: Code) -> LdapResult
@@ -92,14 +97,6 @@ fn busy(alloc: Global) -> LdapResult
     plain_result(alloc, Code::BUSY)
 }
 
-fn used_up(alloc: Global) -> Result<LdapResult, NoMemory>
-    ensures { IfOk result (λ answer. answer ≡ used_up) }
-{
-    let mut answer = plain_result(alloc, Code::UNWILLING_TO_PERFORM);
-    answer.text = Bytes::from_slice(alloc, b"csn space used up")?;
-    Ok(answer)
-}
-
 /// The reply to the write of a ticket, if its connection is still the same one.
 fn reply_owed(
     alloc: Global,
@@ -113,7 +110,7 @@ fn reply_owed(
         return Ok(Bytes::new(alloc));
     };
     if state.still_waits(owed) {
-        out_add(alloc, owed.connection, owed.id, answer)
+        owed_line(alloc, owed, answer)
     } else {
         Ok(Bytes::new(alloc))
     }
@@ -129,36 +126,34 @@ fn joined(mut first: Bytes, second: Bytes) -> Result<Bytes, NoMemory>
 
 // ---- tickets
 
-fn start_full(alloc: Global, k: u32, c: u16, id: u32) -> Result<Bytes, NoMemory>
-    ensures { IfOk result (λ text. text ≡ start_text k c id Happened.Full) }
+fn start_full(alloc: Global, owed: Owed) -> Result<Bytes, NoMemory>
+    ensures { IfOk result (λ text. text ≡ start_text owed Happened.Full) }
 {
-    let text = text_of(alloc, OutputLine::StartFull { k })?;
-    let reply = out_add(alloc, c, id, busy(alloc))?;
+    let text = text_of(alloc, OutputLine::StartFull { k: owed.ticket })?;
+    let reply = owed_line(alloc, owed, busy(alloc))?;
     joined(text, reply)
 }
 
-fn start_exhausted(alloc: Global, k: u32, c: u16, id: u32, csn: Csn) -> Result<Bytes, NoMemory>
-    ensures { IfOk result (λ text. text ≡ start_text k c id (Happened.Exhausted csn)) }
+fn start_exhausted(alloc: Global, owed: Owed, csn: Csn) -> Result<Bytes, NoMemory>
+    ensures { IfOk result (λ text. text ≡ start_text owed (Happened.Exhausted csn)) }
 {
+    let k = owed.ticket;
     let text = text_of(alloc, OutputLine::StartExhausted { k, csn })?;
-    let reply = out_add(alloc, c, id, used_up(alloc)?)?;
+    let reply = owed_line(alloc, owed, used_up(alloc)?)?;
     joined(text, reply)
 }
 
 /// `start K ..`, with a reply where no ticket was begun.
-pub(crate) fn start_text(
-    alloc: Global,
-    k: u32,
-    c: u16,
-    id: u32,
-    happened: &Happened,
-) -> Result<Bytes, NoMemory>
-    ensures { IfOk result (λ text. text ≡ start_text k c id happened.now) }
+pub(crate) fn start_text(alloc: Global, owed: Owed, happened: &Happened) -> Result<Bytes, NoMemory>
+    ensures { IfOk result (λ text. text ≡ start_text owed happened.now) }
 {
     match happened {
-        Happened::Started { csn } => text_of(alloc, OutputLine::Started { k, csn: *csn }),
-        Happened::Full => start_full(alloc, k, c, id),
-        Happened::Exhausted { csn } => start_exhausted(alloc, k, c, id, *csn),
+        Happened::Started { csn } => {
+            let k = owed.ticket;
+            text_of(alloc, OutputLine::Started { k, csn: *csn })
+        }
+        Happened::Full => start_full(alloc, owed),
+        Happened::Exhausted { csn } => start_exhausted(alloc, owed, *csn),
         _ => Ok(Bytes::new(alloc)),
     }
 }

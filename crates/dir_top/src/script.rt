@@ -17,6 +17,7 @@ use crate::report::{
 };
 use crate::state::{Connection, Owed, State};
 use crate::why::LineWhy;
+use conn_core::kind_of;
 use ldap_types::Request;
 use node_core::is_client_write;
 use repl_data::{Bytes, NoMemory};
@@ -269,7 +270,7 @@ impl State {
             return Ok(Step::NotBuilt);
         }
         if !self.world.has_node(node) {
-            return Ok(Step::GoesOn(Bytes::new(alloc)));
+            return Ok(Step::Refuses(LineWhy::Node { n: node }));
         }
         Ok(Step::GoesOn(self.serve(alloc, c, node, instance, client)?))
     }
@@ -320,6 +321,7 @@ impl State {
             connection: c,
             instance: *instance,
             id: request.id,
+            kind: kind_of(&request.op),
         };
         let event = Event::Start {
             k,
@@ -339,10 +341,10 @@ impl State {
         happened: Happened,
     ) -> Result<Bytes, NoMemory>
         ensures state { OnOk result (self.new ≡ record self.old { owed = owes happened self.old.owed owed }) }
-        ensures text { IfOk result (λ text. text ≡ start_text owed.ticket owed.connection owed.id happened) }
+        ensures text { IfOk result (λ text. text ≡ start_text owed happened) }
     {
         self.owe(&happened, owed)?;
-        start_text(alloc, owed.ticket, owed.connection, owed.id, &happened)
+        start_text(alloc, owed, &happened)
     }
 
     /// The first reason against a ticket for the write of a connection.

@@ -6,6 +6,7 @@ ghost use Rattle.dir_top.specs.declared.state.Owed.{Owed};
 ghost use Rattle.dir_top.specs.State.{script_suffix, new_state, connection_in, with_connection, is_open, opened, holds_part, owed_for, without_owed, is_same_connection, still_waits};
 
 use crate::client::Client;
+use conn_core::OpKind;
 use repl_data::{AttrKey, Ava, Bytes, Items, NoMemory, Rdn, Suffix, Val};
 use std::alloc::Global;
 use std::mem;
@@ -31,6 +32,8 @@ pub struct Owed {
     pub instance: u64,
     /// The message id of the write.
     pub id: u32,
+    /// Which write it is.
+    pub kind: OpKind,
 }
 
 /// A world, the connections to its nodes, and who waits for the answer to a ticket.

@@ -15,46 +15,20 @@ use Rattle.dn_text.specs.Reading.{dn_in}
 use Rattle.ldap_types.specs.declared.request.Control.{Control}
 use Rattle.ldap_types.specs.declared.request.RawAttr.{RawAttr}
 use Rattle.ldap_types.specs.declared.request.Op.{Op}
-use Rattle.ldap_types.specs.declared.request.Op.TheVariants.{Add as AddEntry, Delete, Rename, Compare}
+use Rattle.ldap_types.specs.declared.request.Op.TheVariants.{Add as AddEntry, Modify, Delete, Rename, Compare}
 use Rattle.ldap_types.specs.declared.reply.Identity.{Identity}
 use Rattle.ldap_types.specs.declared.reply.LdapResult.{LdapResult}
-use Rattle.ldap_rules.specs.Case.{◌>>=◌, refuse, refuse_if}
-use Rattle.ldap_rules.specs.Values.{read_name, read_value, has_key, put_new, value_beside, values_beside, attribute_beside, attributes_beside, attribute_count, with_name, has_too_many_values, is_class}
+use Rattle.ldap_rules.specs.Case.{◌>>=◌, refuse, refuse_if, coded}
+use Rattle.rule_values.specs.Listed.{entry_attributes}
 use Rattle.ldap_rules.specs.Names.{rdns_above, entry_at}
 use Rattle.ldap_rules.specs.Writes.{is_unknown, is_update_control, is_supplier, is_manager, read_object, within, all_writes, not_too_heavy, light_change}
 use Rattle.ldap_rules.specs.Add.{add_body, add_verdict}
+use Rattle.ldap_rules.specs.Modify.{modify_made, modify_verdict}
 use Rattle.ldap_rules.specs.Delete.{delete_made, delete_verdict}
 use Rattle.ldap_rules.specs.Rename.{rename_made, rename_verdict}
 use Rattle.ldap_rules.specs.Compare.{compare_verdict}
 use Rattle.ldap_rules.specs.Verdict.{Refuses, adds, changes, answers, op_verdict}
-use Rattle.ldap_rules.proofs.Told.{Tells, tells, tells_nothing, tells_if, tells_then, entry_tells, read_tells, within_tells, name_tells, value_tells, delete_tells, rename_tells, compare_tells}
-
--- ---- values and attributes
-
-beside_tells : (attr : AttrKey) (before : List Val) (s : List ℕ) → Tells (value_beside attr before s)
-unfolding value_beside
-beside_tells attr before s =
-    tells_then (read_value attr s) _ (value_tells attr s) (λ v.
-    tells_then (refuse_if (is_derived_value attr v) 19) _ (tells_if (is_derived_value attr v) 19 refl) (λ _.
-    tells_then (refuse_if (has_key v.key before) 20) _ (tells_if (has_key v.key before) 20 refl) (λ _. tells_nothing _)))
-
-values_tell : (attr : AttrKey) (before : List Val) (given : List (List ℕ)) → Tells (values_beside attr before given)
-unfolding values_beside
-values_tell attr before [] = tells_nothing before
-values_tell attr before (s ∷ ss) = tells_then (value_beside attr before s) _ (beside_tells attr before s) (λ vals. values_tell attr vals ss)
-
-attribute_tells : (before : List Attr) (given : RawAttr) → Tells (attribute_beside before given)
-unfolding attribute_beside
-attribute_tells before given =
-    tells_then (read_name given.name) _ (name_tells given.name) (λ attr.
-    tells_then (refuse_if (is_derived_attribute attr) 19) _ (tells_if (is_derived_attribute attr) 19 refl) (λ _.
-    tells_then (refuse_if (is_empty given.vals) 2) _ (tells_if (is_empty given.vals) 2 refl) (λ _.
-    tells_then (values_beside attr (vals_at attr.name before) given.vals) _ (values_tell attr (vals_at attr.name before) given.vals) (λ vals. tells_nothing _))))
-
-attributes_tell : (before : List Attr) (given : List RawAttr) → Tells (attributes_beside before given)
-unfolding attributes_beside
-attributes_tell before [] = tells_nothing before
-attributes_tell before (a ∷ more) = tells_then (attribute_beside before a) _ (attribute_tells before a) (λ attrs. attributes_tell attrs more)
+use Rattle.ldap_rules.proofs.Told.{Tells, tells, tells_nothing, tells_if, tells_then, entry_tells, read_tells, within_tells, coded_tells, modify_tells, delete_tells, rename_tells, compare_tells}
 
 -- ---- writes
 
@@ -79,10 +53,7 @@ add_tells v given (rdn ∷ above) =
     tells_then (refuse_if (list_any is_derived_ava rdn.avas) 64) _ (tells_if (list_any is_derived_ava rdn.avas) 64 refl) (λ _.
     tells_then (entry_at v above) _ (entry_tells v above) (λ parent.
     tells_then (refuse_if (is_some (child_of v parent rdn)) 68) _ (tells_if (is_some (child_of v parent rdn)) 68 refl) (λ _.
-    tells_then (refuse_if (nat_lt 500 (attribute_count rdn given)) 11) _ (tells_if (nat_lt 500 (attribute_count rdn given)) 11 refl) (λ _.
-    tells_then (attributes_beside [] given) _ (attributes_tell [] given) (λ attrs.
-    tells_then (refuse_if (list_any has_too_many_values (with_name rdn attrs)) 19) _ (tells_if (list_any has_too_many_values (with_name rdn attrs)) 19 refl) (λ _.
-    tells_then (refuse_if (not (list_any is_class (with_name rdn attrs))) 65) _ (tells_if (not (list_any is_class (with_name rdn attrs))) 65 refl) (λ _. tells_nothing _)))))))
+    tells_then (coded (entry_attributes rdn given)) _ (coded_tells (entry_attributes rdn given)) (λ attrs. tells_nothing _))))
 
 -- ---- operation by operation
 
@@ -106,6 +77,9 @@ op_tells v controls bound (AddEntry object given) r h =
     tells_then (all_writes v.suffix controls bound object >>= add_body v given) not_too_heavy
     (tells_then (all_writes v.suffix controls bound object) (add_body v given) (writes_tell v.suffix controls bound object) (add_tells v given)) heavy_tells
     r (added (add_verdict v controls bound object given) r h)
+op_tells v controls bound (Modify object given) r h =
+    change_tells (all_writes v.suffix controls bound object) (modify_made v given) (writes_tell v.suffix controls bound object) (modify_tells v given)
+    r (changed (modify_verdict v controls bound object given) r h)
 op_tells v controls bound (Delete object) r h =
     change_tells (all_writes v.suffix controls bound object) (delete_made v) (writes_tell v.suffix controls bound object) (delete_tells v)
     r (changed (delete_verdict v controls bound object) r h)

@@ -35,7 +35,7 @@ use Rattle.ldap_rules.specs.Carried.{CarriesKeys, AllCarryKeys}
 use Rattle.ldap_rules.specs.Delete.{delete_made}
 use Rattle.ldap_rules.specs.Rename.{only, read_new, stays_below, is_taken, parts, dropped_parts, is_second, own_values, rename_made}
 use Rattle.ldap_rules.proofs.Places.{is_less}
-use Rattle.ldap_rules.proofs.Goods.{by_pass, by_free}
+use Rattle.ldap_rules.proofs.Chains.{by_pass, by_free}
 use Rattle.ldap_rules.proofs.Checked.{any_both, any_map, nowhere, no_first, none_falls, parts_rise, no_empty_part, ids_of_supplier}
 use Rattle.ldap_rules.proofs.There.{entry_there}
 use Rattle.ldap_rules.proofs.Entries.{entry_below}
@@ -305,7 +305,7 @@ pub rename_needs : (v : DirectoryView) (new_rdn : List ℕ) (old : Bool) (superi
 rename_needs v new_rdn old superior rdns change h = ap (needed change.0) (renamed v new_rdn old superior rdns change h).body
 
 -- THEY CARRY THE KEYS OF THEIR SPELLINGS
-each_readable : (avas : List Ava) → AreReadableParts avas → AllByRecursion IsReadablePart avas
+pub each_readable : (avas : List Ava) → AreReadableParts avas → AllByRecursion IsReadablePart avas
 each_readable [] h = tt
 each_readable (a ∷ avas) h = (h.0, each_readable avas h.2)
 

@@ -25,8 +25,8 @@ use Rattle.repl_data.proofs.CsnTests.{csn_eq-same}
 use Rattle.dn_text.specs.Laws.{IsBelowAll, AreReadableParts}
 use Rattle.ldap_types.specs.declared.request.RawAttr.{RawAttr}
 use Rattle.ldap_rules.specs.Ordered.{Rises, val_key, attr_name, own_key}
-use Rattle.ldap_rules.specs.Values.{named_keys, attribute_count, with_name, with_part}
-use Rattle.ldap_rules.specs.Counting.{put_key}
+use Rattle.rule_values.specs.Listed.{named_keys, attribute_count, with_name, with_part}
+use Rattle.rule_values.specs.Counting.{put_key}
 use Rattle.ldap_rules.specs.Laws.{IsDrawnAbove}
 use Rattle.ldap_rules.proofs.Places.{is_less}
 use Rattle.ldap_rules.proofs.Goods.{IsGood, AreRead}

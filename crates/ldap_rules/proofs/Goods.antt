@@ -18,28 +18,14 @@ use Rattle.repl_data.proofs.InOrder.{in_order_by-append}
 use Rattle.attr_keys.specs.Name.{bad_name}
 use Rattle.attr_keys.specs.Table.{key_of}
 use Rattle.ldap_types.specs.declared.request.RawAttr.{RawAttr}
-use Rattle.ldap_types.specs.declared.reply.LdapResult.{LdapResult}
-use Rattle.ldap_rules.specs.Case.{◌>>=◌, refuse_if}
+use Rattle.rule_values.specs.declared.fault.Refusal.{Refusal}
+use Rattle.rule_values.specs.declared.fault.Refusal.TheVariants as why
+use Rattle.rule_values.specs.Refusing.{◌>>=◌}
+use Rattle.rule_values.specs.Counting.{put_key}
+use Rattle.rule_values.specs.Listed.{is_name, named_keys, named, read_name, read_value, has_key, value_beside, values_beside, attribute_beside, attributes_beside}
 use Rattle.ldap_rules.specs.Ordered.{Rises, val_key, attr_name, own_key}
-use Rattle.ldap_rules.specs.Values.{is_name, named_keys, named, read_name, read_value, has_key, value_beside, values_beside, attribute_beside, attributes_beside}
-use Rattle.ldap_rules.specs.Counting.{put_key}
+use Rattle.ldap_rules.proofs.Chains.{by_pass, by_fit, same_ok}
 use Rattle.ldap_rules.proofs.Places.{put_rises, all_put, above_others}
-
--- ---- chains of cases
-
-pub by_pass : {A B G : Type 0} (r : Result A LdapResult) (f : A → Result B LdapResult) (y : B) → (r >>= f) ≡ Ok y → ((a : A) → r ≡ Ok a → f a ≡ Ok y → G) → G
-by_pass (Ok a) f y h g = g a refl h
-by_pass (Err e) f y h g = let n : ⊥ = cc in absurd n
-
-abbrev done : Unit {0}
-done = tt
-
-pub by_free : {A G : Type 0} (b : Bool) (n : ℕ) (f : Unit {0} → Result A LdapResult) (y : A) → (refuse_if b n >>= f) ≡ Ok y → (b ≡ false → f done ≡ Ok y → G) → G
-by_free true n f y h g = let n : ⊥ = cc in absurd n
-by_free false n f y h g = g refl h
-
-pub same_ok : {A : Type 0} (x y : A) → ◌≡◌ {A = Result A LdapResult} (Ok x) (Ok y) → x ≡ y
-same_ok x y h = cc
 
 -- ---- tests of items that are put
 
@@ -63,15 +49,15 @@ full_put key x (y ∷ ys) = by (bytes_cmp (key x) (key y))
 
 -- ---- values
 
-abbrev GoodVals : AttrKey → List Val → Type 0
+abbrev pub GoodVals : AttrKey → List Val → Type 0
 GoodVals attr vals = Rises val_key vals × (list_any (is_derived_value attr) vals ≡ false)
 
-value_good : (attr : AttrKey) (before vals : List Val) (s : List ℕ) → value_beside attr before s ≡ Ok vals → GoodVals attr before → GoodVals attr vals × (is_empty vals ≡ false)
+pub value_good : (attr : AttrKey) (before vals : List Val) (s : List ℕ) → value_beside attr before s ≡ Ok vals → GoodVals attr before → GoodVals attr vals × (is_empty vals ≡ false)
 unfolding value_beside
 value_good attr before vals s h g =
     by_pass (read_value attr s) _ vals h (λ v r k.
-    by_free (is_derived_value attr v) 19 _ vals k (λ underived m.
-    by_free (has_key v.key before) 20 _ vals m (λ new e.
+    by_fit (is_derived_value attr v) why.Derived _ vals k (λ underived m.
+    by_fit (has_key v.key before) why.ListedTwice _ vals m (λ new e.
     let p : put_val v before ≡ vals = same_ok (put_val v before) vals e in
     subst (λ (w : List Val). GoodVals attr w × (is_empty w ≡ false)) p
     ((put_rises val_key v before g.0, none_put val_key (is_derived_value attr) v before underived g.1), full_put val_key v before))))
@@ -82,7 +68,7 @@ values_kept attr before vals [] h g = subst (λ (w : List Val). GoodVals attr w 
 values_kept attr before vals (s ∷ ss) h g =
     by_pass (value_beside attr before s) _ vals h (λ next r k. values_kept attr next vals ss k (value_good attr before next s r g.0))
 
-values_good : (attr : AttrKey) (before vals : List Val) (given : List (List ℕ)) → is_empty given ≡ false → values_beside attr before given ≡ Ok vals → GoodVals attr before → GoodVals attr vals × (is_empty vals ≡ false)
+pub values_good : (attr : AttrKey) (before vals : List Val) (given : List (List ℕ)) → is_empty given ≡ false → values_beside attr before given ≡ Ok vals → GoodVals attr before → GoodVals attr vals × (is_empty vals ≡ false)
 unfolding values_beside
 values_good attr before vals [] n h g = absurd (not_both true refl n)
 values_good attr before vals (s ∷ ss) n h g =
@@ -141,8 +127,8 @@ attribute_read : (names : List (List ℕ)) (before attrs : List Attr) (given : R
 unfolding attribute_beside
 attribute_read names before attrs given h r =
     by_pass (read_name given.name) _ attrs h (λ attr n k.
-    by_free (is_derived_attribute attr) 19 _ attrs k (λ plain m.
-    by_free (is_empty given.vals) 2 _ attrs m (λ some l.
+    by_fit (is_derived_attribute attr) why.Derived _ attrs k (λ plain m.
+    by_fit (is_empty given.vals) why.NoValue _ attrs m (λ some l.
     by_pass (values_beside attr (vals_at attr.name before) given.vals) _ attrs l (λ vals read e.
     let is = named_as given.name (bad_name given.name) attr n in
     let good = values_good attr (vals_at attr.name before) vals given.vals some read (vals_good attr before r.good) in

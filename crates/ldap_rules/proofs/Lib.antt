@@ -1,8 +1,7 @@
 pub mod Walks
 pub mod Places
 pub mod Keys
-pub mod InTurn
-pub mod Counts
+pub mod Chains
 pub mod Goods
 pub mod Named
 pub mod Checked
@@ -11,8 +10,11 @@ pub mod Written
 pub mod Rdns
 pub mod Shows
 pub mod OwnNames
+pub mod OwnVals
 pub mod Entries
+pub mod OwnKeys
 pub mod Changed
+pub mod Modified
 pub mod SameNames
 pub mod Told
 pub mod Ops

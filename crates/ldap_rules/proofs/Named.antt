@@ -16,7 +16,7 @@ use Rattle.repl_data.proofs.Sound.{neither, both_true, not_both}
 use Rattle.repl_data.proofs.Orders.{bytes_total, bytes_exact}
 use Rattle.repl_data.proofs.InOrder.{in_order_by-append, any-in_order_by, put-known}
 use Rattle.ldap_rules.specs.Ordered.{val_key, attr_name, own_key}
-use Rattle.ldap_rules.specs.Values.{has_key, with_part}
+use Rattle.rule_values.specs.Listed.{has_key, with_part}
 use Rattle.ldap_rules.proofs.Places.{put_rises, equal_key, is_same}
 use Rattle.ldap_rules.proofs.Goods.{AreRead, put_read, vals_good, none_put, full_put}
 

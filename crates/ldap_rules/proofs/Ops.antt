@@ -1,33 +1,37 @@
 -- What the rules write, operation by operation.
 use Rattle.std.proofs.Common.{◌≡◌, ℕ, Bool, true, false, List, refl, sym, ap, subst, ◌∙◌, Result, Ok, Err, Option, Some, None, nat_lt}
-use Rattle.std.specs.List.{list_all}
+use Rattle.std.specs.List.{AllByRecursion, list_all}
 use Rattle.repl_data.specs.declared.csn.Csn.{Csn}
 use Rattle.repl_data.specs.declared.csn.Uid.{Uid}
 use Rattle.repl_data.specs.declared.change.Rdn.{Rdn}
 use Rattle.repl_data.specs.declared.change.Body.{Body}
 use Rattle.repl_data.specs.declared.change.Change.{Change}
 use Rattle.repl_data.specs.declared.change.Suffix.{Suffix}
-use Rattle.repl_data.specs.Check.{weight, fault_of}
+use Rattle.repl_data.specs.Check.{is_empty, weight, fault_of}
 use Rattle.repl_data.specs.Closed.{is_sound, needed}
 use Rattle.repl_data.specs.View.{DirectoryView, view_of}
 use Rattle.dn_text.specs.declared.name.Dn.{Dn}
-use Rattle.dn_text.specs.Laws.{IsReadable}
+use Rattle.dn_text.specs.Laws.{IsReadable, IsReadablePart}
 use Rattle.dn_text.specs.Reading.{dn_in}
 use Rattle.ldap_types.specs.declared.request.Control.{Control}
+use Rattle.ldap_types.specs.declared.request.RawMod.{RawMod}
 use Rattle.ldap_types.specs.declared.request.Op.{Op}
-use Rattle.ldap_types.specs.declared.request.Op.TheVariants.{Add as AddEntry, Delete, Rename, Compare}
+use Rattle.ldap_types.specs.declared.request.Op.TheVariants.{Add as AddEntry, Modify, Delete, Rename, Compare}
 use Rattle.ldap_types.specs.declared.reply.Identity.{Identity}
 use Rattle.ldap_types.specs.declared.reply.LdapResult.{LdapResult}
 use Rattle.ldap_rules.specs.Case.{◌>>=◌}
-use Rattle.ldap_rules.proofs.Goods.{by_pass, by_free, same_ok}
+use Rattle.ldap_rules.proofs.Chains.{by_pass, by_free, same_ok}
 use Rattle.ldap_rules.specs.Writes.{all_writes, not_too_heavy, light_change}
+use Rattle.ldap_rules.specs.Carried.{CarriesKeys, AllCarryKeys}
+use Rattle.ldap_rules.specs.Modify.{modify_made, modify_verdict}
 use Rattle.ldap_rules.specs.Delete.{delete_made, delete_verdict}
 use Rattle.ldap_rules.specs.Rename.{rename_made, rename_verdict}
 use Rattle.ldap_rules.specs.Compare.{compare_verdict}
 use Rattle.ldap_rules.specs.Verdict.{Writes, changes, answers, is_built, is_judged, op_verdict}
-use Rattle.ldap_rules.specs.Laws.{change_at, needed_at, IsDrawnAbove, has_entry}
-use Rattle.ldap_rules.proofs.Changed.{delete_checked, delete_there, delete_needs, rename_checked, rename_there, rename_needs}
-use Rattle.ldap_rules.proofs.Written.{op_added, written_sound, written_there, written_needs}
+use Rattle.ldap_rules.specs.Laws.{change_at, needed_at, IsDrawnAbove, has_entry, ModifiesEach}
+use Rattle.ldap_rules.proofs.Changed.{delete_checked, delete_there, delete_needs, delete_carries, rename_checked, rename_there, rename_needs, rename_carries}
+use Rattle.ldap_rules.proofs.Modified.{modify_checked, modify_there, modify_needs, modify_each, modify_carries}
+use Rattle.ldap_rules.proofs.Written.{op_added, written_sound, written_there, written_needs, written_carries}
 
 -- ---- a change of an entry that is there
 
@@ -41,7 +45,7 @@ light_as made change h =
     let same : m ≡ change = ap (λ (x : Body). (m.0, x)) body ∙ whole in
     (e ∙ ap Ok same, subst (λ (x : Uid × Body). nat_lt 2097152 (weight x.1) ≡ false) same light))))
 
-after_writes : {G : Type 0} (writes : Result (List Rdn) LdapResult) (f : List Rdn → Result (Uid × Body) LdapResult) (change : Uid × Body) → (writes >>= f >>= light_change) ≡ Ok change
+pub after_writes : {G : Type 0} (writes : Result (List Rdn) LdapResult) (f : List Rdn → Result (Uid × Body) LdapResult) (change : Uid × Body) → (writes >>= f >>= light_change) ≡ Ok change
     → ((rdns : List Rdn) → f rdns ≡ Ok change → nat_lt 2097152 (weight change.1) ≡ false → G) → G
 after_writes writes f change h g = let l = light_as (writes >>= f) change h in by_pass writes f change l.0 (λ rdns w e. g rdns e l.1)
 
@@ -74,6 +78,11 @@ pub op_sound : (suffix : Suffix) (xs : List Change) (controls : List Control) (b
 op_sound suffix xs controls bound (AddEntry object given) target body c law sound h drawn =
     let v : DirectoryView = view_of suffix xs in
     written_sound v target body c law (op_added v controls bound object given target body h) drawn
+op_sound suffix xs controls bound (Modify object given) target body c law sound h drawn =
+    let v : DirectoryView = view_of suffix xs in
+    from_changes (modify_verdict v controls bound object given) target body h (λ u m t.
+    after_writes (all_writes v.suffix controls bound object) (modify_made v given) (u, body) m (λ rdns e light.
+    at_target c target body u t (λ d. modify_checked v given rdns (u, body) c e light (subst (IsDrawnAbove c) (modify_needs v given rdns (u, body) e) d)) drawn))
 op_sound suffix xs controls bound (Delete object) target body c law sound h drawn =
     let v : DirectoryView = view_of suffix xs in
     from_changes (delete_verdict v controls bound object) target body h (λ u m t.
@@ -91,6 +100,10 @@ op_sound suffix xs controls bound _ target body c law sound h drawn = let n : �
 
 pub op_there : (v : DirectoryView) (controls : List Control) (bound : Identity) (op : Op) (target : Option Uid) (body : Body) (c : Csn) → op_verdict v controls bound op ≡ Writes target body → has_entry v (needed_at c target body) ≡ true
 op_there v controls bound (AddEntry object given) target body c h = written_there v target body c (op_added v controls bound object given target body h)
+op_there v controls bound (Modify object given) target body c h =
+    from_changes (modify_verdict v controls bound object given) target body h (λ u m t.
+    after_writes (all_writes v.suffix controls bound object) (modify_made v given) (u, body) m (λ rdns e light.
+    there_at v c target body u t (modify_needs v given rdns (u, body) e) (modify_there v given rdns (u, body) e)))
 op_there v controls bound (Delete object) target body c h =
     from_changes (delete_verdict v controls bound object) target body h (λ u m t.
     after_writes (all_writes v.suffix controls bound object) (delete_made v) (u, body) m (λ rdns e light.
@@ -106,10 +119,44 @@ op_there v controls bound _ target body c h = let n : ⊥ = cc in absurd n
 
 pub op_needs : (v : DirectoryView) (controls : List Control) (bound : Identity) (op : Op) (target : Option Uid) (body : Body) (c d : Csn) → op_verdict v controls bound op ≡ Writes target body → needed_at c target body ≡ needed_at d target body
 op_needs v controls bound (AddEntry object given) target body c d h = written_needs v target body c d (op_added v controls bound object given target body h)
+op_needs v controls bound (Modify object given) target body c d h = from_changes (modify_verdict v controls bound object given) target body h (λ u m t. needs_at c d target body u t)
 op_needs v controls bound (Delete object) target body c d h = from_changes (delete_verdict v controls bound object) target body h (λ u m t. needs_at c d target body u t)
 op_needs v controls bound (Rename object new_rdn old superior) target body c d h = from_changes (rename_verdict v controls bound object new_rdn old superior) target body h (λ u m t. needs_at c d target body u t)
 op_needs v controls bound (Compare object name value) target body c d h = absurd (no_answer (compare_verdict v controls object name value) target body h)
 op_needs v controls bound _ target body c d h = let n : ⊥ = cc in absurd n
+
+-- ---- IT CARRIES THE KEYS OF ITS SPELLINGS
+
+pub op_carries : (suffix : Suffix) (xs : List Change) (controls : List Control) (bound : Identity) (op : Op) (target : Option Uid) (body : Body) → ((text : List ℕ) (dn : Dn) → dn_in text ≡ Ok dn → IsReadable dn)
+    → list_all is_sound xs ≡ true → AllCarryKeys xs → AllByRecursion IsReadablePart suffix.rdn.avas → op_verdict (view_of suffix xs) controls bound op ≡ Writes target body → CarriesKeys body
+op_carries suffix xs controls bound (AddEntry object given) target body law sound carried root h =
+    let v : DirectoryView = view_of suffix xs in
+    written_carries v target body law (op_added v controls bound object given target body h)
+op_carries suffix xs controls bound (Modify object given) target body law sound carried root h =
+    let v : DirectoryView = view_of suffix xs in
+    from_changes (modify_verdict v controls bound object given) target body h (λ u m t.
+    after_writes (all_writes v.suffix controls bound object) (modify_made v given) (u, body) m (λ rdns e light.
+    modify_carries suffix xs given rdns (u, body) sound carried root e))
+op_carries suffix xs controls bound (Delete object) target body law sound carried root h =
+    let v : DirectoryView = view_of suffix xs in
+    from_changes (delete_verdict v controls bound object) target body h (λ u m t.
+    after_writes (all_writes v.suffix controls bound object) (delete_made v) (u, body) m (λ rdns e light.
+    delete_carries v rdns (u, body) e))
+op_carries suffix xs controls bound (Rename object new_rdn old superior) target body law sound carried root h =
+    let v : DirectoryView = view_of suffix xs in
+    from_changes (rename_verdict v controls bound object new_rdn old superior) target body h (λ u m t.
+    after_writes (all_writes v.suffix controls bound object) (rename_made v new_rdn old superior) (u, body) m (λ rdns e light.
+    rename_carries suffix xs new_rdn old superior rdns (u, body) law carried e))
+op_carries suffix xs controls bound (Compare object name value) target body law sound carried root h = absurd (no_answer (compare_verdict (view_of suffix xs) controls object name value) target body h)
+op_carries suffix xs controls bound _ target body law sound carried root h = let n : ⊥ = cc in absurd n
+
+-- ---- A MODIFY IS WRITTEN WITH EACH ATTRIBUTE THAT IT NAMES
+
+pub op_each : (v : DirectoryView) (controls : List Control) (bound : Identity) (object : List ℕ) (given : List RawMod) (target : Option Uid) (body : Body) → op_verdict v controls bound (Modify object given) ≡ Writes target body → (is_empty given ≡ false) × ModifiesEach given body
+op_each v controls bound object given target body h =
+    from_changes (modify_verdict v controls bound object given) target body h (λ u m t.
+    after_writes (all_writes v.suffix controls bound object) (modify_made v given) (u, body) m (λ rdns e light.
+    modify_each v given rdns (u, body) e))
 
 -- what is carried out is judged
 pub built_judged : (op : Op) → is_built op ≡ true → is_judged op ≡ true

@@ -70,9 +70,15 @@ each_is_there (w ∷ us) = (
   all_mono (λ u. list_any (uid_eq u) us ≡ true) (λ u. list_any (uid_eq u) (w ∷ us) ≡ true) (λ u h. either_right (uid_eq u w) (list_any (uid_eq u) us) h) us (each_is_there us),
 )
 
+-- what holds of the suffix entry's id and of each id that was added holds of all that are known
+pub known_such : (P : Uid → Type 0) (xs : List Change) → ((u : Uid) → (uid_eq u suffix_id ≡ true) ⊎ (list_any (uid_eq u) (added_ids xs) ≡ true) → P u) → AllByRecursion P (ids_known xs)
+known_such P xs f =
+    all_in_order P (suffix_id ∷ added_ids xs)
+    (f suffix_id (inl refl), all_mono (λ u. list_any (uid_eq u) (added_ids xs) ≡ true) P (λ u h. f u (inr h)) (added_ids xs) (each_is_there (added_ids xs)))
+
 -- ---- the latest of what was given
 
-picked : {X : Type 0} (P : Csn × X → Type 0) (none : X) (x : Csn × X) (xs : List (Csn × X)) → P x → AllByRecursion P xs → P (latest_or (zero_csn, none) (x ∷ xs))
+pub picked : {X : Type 0} (P : Csn × X → Type 0) (none : X) (x : Csn × X) (xs : List (Csn × X)) → P x → AllByRecursion P xs → P (latest_or (zero_csn, none) (x ∷ xs))
 picked P none x [] h g = subst (λ b. P (if b then (zero_csn, none) else x)) (sym (csn_lt-zero x.0)) h
 picked P none x (y ∷ ys) h g = by (csn_lt x.0 (latest_or (zero_csn, none) (y ∷ ys)).0) (picked P none y ys g.0 g.1)
   where
@@ -80,13 +86,13 @@ picked P none x (y ∷ ys) h g = by (csn_lt x.0 (latest_or (zero_csn, none) (y �
     by true k = k
     by false k = h
 
-picked_some : {X : Type 0} (P : Csn × X → Type 0) (none : X) (xs : List (Csn × X)) → (xs ≡ [] → ⊥) → AllByRecursion P xs → P (latest_or (zero_csn, none) xs)
+pub picked_some : {X : Type 0} (P : Csn × X → Type 0) (none : X) (xs : List (Csn × X)) → (xs ≡ [] → ⊥) → AllByRecursion P xs → P (latest_or (zero_csn, none) xs)
 picked_some P none [] n h = absurd (n refl)
 picked_some P none (x ∷ xs) n h = picked P none x xs h.0 h.1
 
 -- ---- what the changes of an entry give
 
-abbrev own_names : List Change → Uid → List (Csn × Rdn)
+abbrev pub own_names : List Change → Uid → List (Csn × Rdn)
 own_names xs u = flat_map (λ (c : Change). names_given c.csn c.body) (of_entry xs u)
 
 -- the names that a change gives are such
@@ -132,7 +138,7 @@ names_after x xs u (Ren rdn dropped) k g rest = more_names (uid_eq x.target u) x
 names_after x xs u Del k g rest = more_names (uid_eq x.target u) x xs u (rest g)
 
 -- an entry that was added has been given a name
-added_named : (xs : List Change) (u : Uid) → list_any (uid_eq u) (added_ids xs) ≡ true → own_names xs u ≡ [] → ⊥
+pub added_named : (xs : List Change) (u : Uid) → list_any (uid_eq u) (added_ids xs) ≡ true → own_names xs u ≡ [] → ⊥
 added_named [] u h e = not_both false h refl
 added_named (x ∷ xs) u h e = names_after x xs u x.body refl h (added_named xs u) e
 
@@ -150,11 +156,7 @@ module _ (P : Rdn → Type 0) (suffix : Suffix) (xs : List Change) (given : AllB
   facts_such u (inr a) = inr (picked_some (λ (p : Csn × Rdn). P p.1) suffix.rdn (own_names xs u) (added_named xs u a) (own_names-such P xs u given))
 
   all_such : AllByRecursion (FactsSuch P) (all_facts suffix xs)
-  all_such =
-      all_map (FactsSuch P) (entry_facts suffix xs) (ids_known xs)
-      (all_mono (λ u. (uid_eq u suffix_id ≡ true) ⊎ (list_any (uid_eq u) (added_ids xs) ≡ true)) (λ u. FactsSuch P (entry_facts suffix xs u)) facts_such (ids_known xs)
-      (all_in_order (λ u. (uid_eq u suffix_id ≡ true) ⊎ (list_any (uid_eq u) (added_ids xs) ≡ true)) (suffix_id ∷ added_ids xs)
-      (inl refl, all_mono (λ u. list_any (uid_eq u) (added_ids xs) ≡ true) (λ u. (uid_eq u suffix_id ≡ true) ⊎ (list_any (uid_eq u) (added_ids xs) ≡ true)) (λ u h. inr h) (added_ids xs) (each_is_there (added_ids xs)))))
+  all_such = all_map (FactsSuch P) (entry_facts suffix xs) (ids_known xs) (known_such (λ u. FactsSuch P (entry_facts suffix xs u)) xs facts_such)
 
 pub present_such : (P : EntryFacts → Type 0) (es : List EntryFacts) → AllByRecursion P es → AllByRecursion P (present_of es)
 present_such P [] h = tt

@@ -18,10 +18,16 @@ use Rattle.ldap_types.specs.declared.request.Control.{Control}
 use Rattle.ldap_types.specs.declared.reply.LdapResult.{LdapResult}
 use Rattle.ldap_rules.specs.declared.walk.Place.{Place}
 use Rattle.ldap_rules.specs.declared.walk.Place.TheVariants.{There, Nearest}
-use Rattle.ldap_rules.specs.Case.{◌>>=◌, result_of, no_such_object, refuse, refuse_if}
+use Rattle.rule_values.specs.declared.fault.Refusal.{Refusal}
+use Rattle.rule_values.specs.declared.fault.Refusal.TheVariants as why
+use Rattle.rule_values.specs.Codes.{code_of}
+use Rattle.ldap_rules.specs.Case.{◌>>=◌, result_of, no_such_object, refuse, refuse_if, coded}
 use Rattle.ldap_rules.specs.Names.{rdns_above, shown_name, found, place_of, entry_at}
-use Rattle.ldap_rules.specs.Values.{named, read_name, valued, read_value}
+use Rattle.rule_values.specs.Listed.{read_name, read_value}
 use Rattle.ldap_rules.specs.Writes.{read_object, within}
+use Rattle.ldap_types.specs.declared.request.RawMod.{RawMod}
+use Rattle.rule_values.specs.Modify.{modifications}
+use Rattle.ldap_rules.specs.Modify.{own_name, modify_made}
 use Rattle.ldap_rules.specs.Delete.{delete_made}
 use Rattle.ldap_rules.specs.Rename.{only, read_new, is_above, stays_below, is_taken, dropped_parts, is_second, own_values, rename_made}
 use Rattle.ldap_rules.specs.Compare.{ShownKeys, keys_in, shown_at, there, compared, is_critical, compare_verdict}
@@ -67,19 +73,26 @@ pub within_tells : (o : Option (List Rdn)) → Tells (within o)
 within_tells (Some rdns) = tells_nothing rdns
 within_tells None = tells 32 refl
 
-pub name_tells : (name : List ℕ) → Tells (read_name name)
-name_tells name = by (bad_name name)
-  where
-    by : (o : Option ℕ) → Tells (named name o)
-    by None = tells_nothing _
-    by (Some place) = tells 17 refl
+-- no cause has the code 0
+code_tells : (cause : Refusal) → (code_of cause == 0) ≡ false
+code_tells why.UnknownKind = refl
+code_tells why.BadName = refl
+code_tells why.BadValue = refl
+code_tells why.Derived = refl
+code_tells why.NoValue = refl
+code_tells why.ListedTwice = refl
+code_tells why.HeldAlready = refl
+code_tells why.NotHeld = refl
+code_tells why.NoModification = refl
+code_tells why.TooManyModifications = refl
+code_tells why.TooManyAttributes = refl
+code_tells why.NameValueGone = refl
+code_tells why.SecondValue = refl
+code_tells why.NoClass = refl
 
-pub value_tells : (attr : AttrKey) (spelled : List ℕ) → Tells (read_value attr spelled)
-value_tells attr spelled = by (bad_value (kind_of attr.name) spelled)
-  where
-    by : (o : Option ℕ) → Tells (valued attr spelled o)
-    by None = tells_nothing _
-    by (Some place) = tells 21 refl
+pub coded_tells : {A : Type 0} (cases : Result A Refusal) → Tells (coded cases)
+coded_tells (Ok x) = tells_nothing x
+coded_tells (Err cause) = tells (code_of cause) (code_tells cause)
 
 pub delete_tells : (v : DirectoryView) (rdns : List Rdn) → Tells (delete_made v rdns)
 unfolding delete_made
@@ -99,6 +112,12 @@ stays_tells v above None = tells_nothing tt
 stays_tells v above (Some text) =
     tells_then (read_object (dn_in text)) _ (read_tells text) (λ superior. tells_if (not (is_above (rdns_above (dn_in v.suffix) superior) above)) 53 refl)
 
+pub modify_tells : (v : DirectoryView) (given : List RawMod) (rdns : List Rdn) → Tells (modify_made v given rdns)
+unfolding modify_made
+modify_tells v given rdns =
+    tells_then (entry_at v rdns) _ (entry_tells v rdns) (λ u.
+    tells_then (coded (modifications (own_name v u) (own_values v u) given)) _ (coded_tells (modifications (own_name v u) (own_values v u) given)) (λ mods. tells_nothing _))
+
 pub rename_tells : (v : DirectoryView) (new_rdn : List ℕ) (old : Bool) (superior : Option (List ℕ)) (rdns : List Rdn) → Tells (rename_made v new_rdn old superior rdns)
 unfolding rename_made
 rename_tells v new_rdn old superior rdns =
@@ -117,9 +136,9 @@ there_tells (Some keys) = tells_nothing keys
 compared_tells : (shown : ShownKeys) (name value : List ℕ) → Tells (compared shown name value)
 unfolding compared
 compared_tells shown name value =
-    tells_then (read_name name) _ (name_tells name) (λ attr.
+    tells_then (coded (read_name name)) _ (coded_tells (read_name name)) (λ attr.
     tells_then (there (shown attr)) _ (there_tells (shown attr)) (λ keys.
-    tells_then (read_value attr value) _ (value_tells attr value) (λ v. tells_nothing _)))
+    tells_then (coded (read_value attr value)) _ (coded_tells (read_value attr value)) (λ v. tells_nothing _)))
 
 pub compare_tells : (v : DirectoryView) (controls : List Control) (object name value : List ℕ) → Tells (compare_verdict v controls object name value)
 unfolding compare_verdict

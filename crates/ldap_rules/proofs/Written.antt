@@ -1,7 +1,7 @@
 -- What stands where the rules write.
-use Rattle.std.proofs.Common.{◌≡◌, ℕ, zero, suc, true, false, not, ◌&&◌, List, [], ◌∷◌, take, refl, sym, ap, subst, Result, Ok, Err, Option, Some, None, nat_lt}
+use Rattle.std.proofs.Common.{◌≡◌, ℕ, zero, suc, true, false, not, ◌&&◌, List, [], ◌∷◌, take, refl, sym, ap, subst, ◌∙◌, Result, Ok, Err, Option, Some, None, nat_lt}
 use Rattle.std.specs.Prelude.{is_some, option_map}
-use Rattle.std.specs.List.{list_any}
+use Rattle.std.specs.List.{AllByRecursion, list_any}
 use Rattle.repl_data.specs.declared.csn.Csn.{Csn}
 use Rattle.repl_data.specs.declared.csn.Uid.{Uid}
 use Rattle.repl_data.specs.declared.change.Attr.{Attr}
@@ -13,22 +13,27 @@ use Rattle.repl_data.specs.Check.{weight, fault_of}
 use Rattle.repl_data.specs.View.{DirectoryView, child_of}
 use Rattle.dn_text.specs.declared.name.Dn.{Dn}
 use Rattle.dn_text.specs.declared.fault.DnFault.{DnFault}
-use Rattle.dn_text.specs.Laws.{IsReadable, AreReadable}
+use Rattle.dn_text.specs.Laws.{IsReadable, AreReadable, IsReadablePart}
 use Rattle.dn_text.specs.Reading.{dn_in}
 use Rattle.ldap_types.specs.declared.request.Control.{Control}
 use Rattle.ldap_types.specs.declared.request.RawAttr.{RawAttr}
 use Rattle.ldap_types.specs.declared.reply.Identity.{Identity}
 use Rattle.ldap_types.specs.declared.reply.LdapResult.{LdapResult}
-use Rattle.ldap_rules.specs.Case.{◌>>=◌}
+use Rattle.ldap_rules.specs.Case.{◌>>=◌, coded}
 use Rattle.ldap_rules.specs.Names.{rdns_above, count_above, entry_at}
-use Rattle.ldap_rules.specs.Values.{named_keys, attribute_count, attributes_beside, with_name, has_too_many_values, is_class}
+use Rattle.rule_values.specs.declared.fault.Refusal.TheVariants as why
+use Rattle.rule_values.specs.Listed.{named_keys, attribute_count, attributes_beside, with_name, has_too_many_values, is_class, entry_attributes}
 use Rattle.ldap_rules.specs.Writes.{is_unknown, is_update_control, is_manager, is_supplier, read_object, within, all_writes, not_too_heavy}
 use Rattle.ldap_rules.specs.Add.{add_body, add_verdict}
 use Rattle.ldap_rules.specs.Verdict.{Writes, adds}
 use Rattle.ldap_rules.specs.Laws.{change_at, needed_at, IsDrawnAbove, has_entry}
-use Rattle.ldap_rules.proofs.Goods.{by_pass, by_free, AreRead, attributes_read}
+use Rattle.ldap_rules.proofs.Chains.{by_pass, by_free, by_fit, by_code, same_ok}
+use Rattle.ldap_rules.proofs.Goods.{AreRead, attributes_read}
 use Rattle.ldap_rules.proofs.Checked.{add_sound}
+use Rattle.ldap_rules.specs.Carried.{CarriesKeys}
 use Rattle.ldap_rules.proofs.There.{entry_there}
+use Rattle.ldap_rules.proofs.OwnKeys.{HasOwnVals, attributes_own, parts_own}
+use Rattle.ldap_rules.proofs.Changed.{each_readable}
 
 -- an add of this name and these attributes makes this body
 pub record IsWritten (v : DirectoryView) (object : List ℕ) (given : List RawAttr) (body : Body) : Type 0 where
@@ -73,6 +78,23 @@ read_as : (r : Result Dn DnFault) (name : Dn) → read_object r ≡ Ok name → 
 read_as (Ok dn) name h = let e : dn ≡ name = cc in ap Ok e
 read_as (Err e) name h = let n : ⊥ = cc in absurd n
 
+-- the attributes of an add that are written: as many as there may be, as they are listed, with the values of the name
+pub record IsListed (rdn : Rdn) (given : List RawAttr) (made : List Attr) : Type 0 where
+  pub attrs : List Attr
+  pub count : nat_lt 500 (attribute_count rdn given) ≡ false
+  pub listed : attributes_beside [] given ≡ Ok attrs
+  pub single : list_any has_too_many_values (with_name rdn attrs) ≡ false
+  pub whole : made ≡ with_name rdn attrs
+
+pub listed_as : (rdn : Rdn) (given : List RawAttr) (whole : List Attr) → entry_attributes rdn given ≡ Ok whole → IsListed rdn given whole
+unfolding entry_attributes
+listed_as rdn given whole h =
+    by_fit (nat_lt 500 (attribute_count rdn given)) why.TooManyAttributes _ whole h (λ count h1.
+    by_pass (attributes_beside [] given) _ whole h1 (λ attrs listed h2.
+    by_fit (list_any has_too_many_values (with_name rdn attrs)) why.SecondValue _ whole h2 (λ single h3.
+    by_fit (not (list_any is_class (with_name rdn attrs))) why.NoClass _ whole h3 (λ class h4.
+    record { attrs = attrs; count = count; listed = listed; single = single; whole = sym (same_ok (with_name rdn attrs) whole h4) }))))
+
 -- the cases of an add that write
 body_written : (v : DirectoryView) (object : List ℕ) (given : List RawAttr) (name : Dn) (rdns : List Rdn) (body : Body) → dn_in object ≡ Ok name → IsCut name rdns → add_body v given rdns ≡ Ok body → nat_lt 2097152 (weight body) ≡ false → IsWritten v object given body
 unfolding add_body
@@ -82,26 +104,25 @@ body_written v object given name (rdn ∷ above) body read cut h light =
     by_free (list_any is_derived_ava rdn.avas) 64 _ body h (λ plain h1.
     by_pass (entry_at v above) _ body h1 (λ parent at h2.
     by_free (is_some (child_of v parent rdn)) 68 _ body h2 (λ free h3.
-    by_free (nat_lt 500 (attribute_count rdn given)) 11 _ body h3 (λ count h4.
-    by_pass (attributes_beside [] given) _ body h4 (λ attrs listed h5.
-    by_free (list_any has_too_many_values (with_name rdn attrs)) 19 _ body h5 (λ single h6.
-    by_free (not (list_any is_class (with_name rdn attrs))) 65 _ body h6 (λ class h7.
+    by_pass (coded (entry_attributes rdn given)) _ body h3 (λ whole coded_as h4.
+    by_code (entry_attributes rdn given) whole coded_as (λ made.
+    let l = listed_as rdn given whole made in
     record {
       name = name;
       rdn = rdn;
       rest = first.rest;
       above = above;
       parent = parent;
-      attrs = attrs;
+      attrs = l.attrs;
       read = read;
       first = first.is;
       plain = plain;
       at = at;
-      count = count;
-      listed = listed;
-      is = (let e : Add parent rdn (with_name rdn attrs) ≡ body = cc in sym e);
+      count = l.count;
+      listed = l.listed;
+      is = sym (same_ok (Add parent rdn whole) body h4) ∙ ap (Add parent rdn) l.whole;
       light = light;
-    })))))))
+    })))))
 
 add_written : (v : DirectoryView) (controls : List Control) (bound : Identity) (object : List ℕ) (given : List RawAttr) (body : Body) → add_verdict v controls bound object given ≡ Ok body → IsWritten v object given body
 unfolding all_writes
@@ -157,3 +178,12 @@ pub written_needs : (v : DirectoryView) (target : Option Uid) (body : Body) (c d
 written_needs v target body c d a =
     let w = a.written in
     subst (λ (b : Body). needed_at c target b ≡ needed_at d target b) (sym w.is) refl
+
+-- it carries the keys of its spellings
+pub written_carries : (v : DirectoryView) (target : Option Uid) (body : Body) → ((text : List ℕ) (dn : Dn) → dn_in text ≡ Ok dn → IsReadable dn) → IsAdd v target body → CarriesKeys body
+unfolding with_name
+written_carries v target body law a =
+    let w = a.written in
+    let r : AreReadable (w.rdn ∷ w.rest) = first_readable w.name.rdns w.rdn w.rest w.first (law a.object w.name w.read) in
+    let parts : AllByRecursion IsReadablePart w.rdn.avas = each_readable w.rdn.avas r.1 in
+    subst CarriesKeys (sym w.is) (parts, parts_own w.attrs w.rdn.avas parts (attributes_own [] w.attrs a.given w.listed tt))

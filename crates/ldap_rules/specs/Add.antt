@@ -1,5 +1,5 @@
 -- ADD (RFC 4511, section 4.7): what becomes of it, first case that fits.
-use Rattle.std.specs.Prelude.{ℕ, not, nat_lt, List, [], ◌∷◌, is_some, Result, Ok}
+use Rattle.std.specs.Prelude.{ℕ, List, [], ◌∷◌, is_some, Result, Ok}
 use Rattle.std.specs.List.{list_any}
 use Rattle.repl_data.specs.declared.change.Rdn.{Rdn}
 use Rattle.repl_data.specs.declared.change.Body.{Body}
@@ -10,9 +10,9 @@ use Rattle.ldap_types.specs.declared.request.Control.{Control}
 use Rattle.ldap_types.specs.declared.request.RawAttr.{RawAttr}
 use Rattle.ldap_types.specs.declared.reply.Identity.{Identity}
 use Rattle.ldap_types.specs.declared.reply.LdapResult.{LdapResult}
-use Rattle.ldap_rules.specs.Case.{◌>>=◌, refuse, refuse_if}
+use Rattle.rule_values.specs.Listed.{entry_attributes}
+use Rattle.ldap_rules.specs.Case.{◌>>=◌, refuse, refuse_if, coded}
 use Rattle.ldap_rules.specs.Names.{entry_at}
-use Rattle.ldap_rules.specs.Values.{attribute_count, attributes_beside, with_name, has_too_many_values, is_class}
 use Rattle.ldap_rules.specs.Writes.{all_writes, not_too_heavy}
 
 -- the cases, in their order
@@ -22,12 +22,8 @@ add_body v given (rdn ∷ above) =
     refuse_if (list_any is_derived_ava rdn.avas) 64 >>= λ _.
     entry_at v above >>= λ parent.
     refuse_if (is_some (child_of v parent rdn)) 68 >>= λ _.
-    refuse_if (nat_lt 500 (attribute_count rdn given)) 11 >>= λ _.
-    attributes_beside [] given >>= λ attrs.
-    let whole = with_name rdn attrs in
-    refuse_if (list_any has_too_many_values whole) 19 >>= λ _.
-    refuse_if (not (list_any is_class whole)) 65 >>= λ _.
-    Ok (Add parent rdn whole)
+    coded (entry_attributes rdn given) >>= λ attrs.
+    Ok (Add parent rdn attrs)
 
 -- the cases of all writes, those of an add, and the last one
 abbrev pub add_verdict : DirectoryView → List Control → Identity → List ℕ → List RawAttr → Result Body LdapResult

@@ -1,6 +1,9 @@
 -- A list of cases, of which the first that fits answers.
 use Rattle.std.specs.Prelude.{◌≡◌, ℕ, Bool, List, [], Result, Ok, Err, if◌then◌else◌}
+use Rattle.rule_values.specs.declared.fault.Refusal.{Refusal}
+use Rattle.rule_values.specs.Codes.{code_of}
 use Rattle.ldap_types.specs.declared.reply.LdapResult.{LdapResult}
+pub use Rattle.rule_values.specs.Refusing.{◌>>=◌}
 use Rattle.ldap_rules.specs.declared.fault.JudgeFault.{JudgeFault}
 use Rattle.ldap_rules.specs.declared.fault.JudgeFault.TheVariants.{NoMemory, Refused}
 
@@ -19,11 +22,10 @@ refuse number = Err (result_of number)
 abbrev pub refuse_if : Bool → ℕ → Result (Unit {0}) LdapResult
 refuse_if fits number = if fits then refuse number else Ok tt
 
-infixl 10 ◌>>=◌
--- where none of the cases on the left fits, those on the right
-abbrev pub ◌>>=◌ : {A B : Type 0} → Result A LdapResult → (A → Result B LdapResult) → Result B LdapResult
-(Ok x) >>= f = f x
-(Err e) >>= f = Err e
+-- the cases of attributes and values, each with the code that tells it
+abbrev pub coded : {A : Type 0} → Result A Refusal → Result A LdapResult
+coded (Ok x) = Ok x
+coded (Err why) = refuse (code_of why)
 
 -- the refusal that the code tells is that of the cases, unless memory ran out
 abbrev pub Fails : {A : Type 0} → JudgeFault → Result A LdapResult → Type 0

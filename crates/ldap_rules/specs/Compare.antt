@@ -11,9 +11,9 @@ use Rattle.repl_data.specs.View.{DirectoryView, entry_of}
 use Rattle.dn_text.specs.Reading.{dn_in}
 use Rattle.ldap_types.specs.declared.request.Control.{Control}
 use Rattle.ldap_types.specs.declared.reply.LdapResult.{LdapResult}
-use Rattle.ldap_rules.specs.Case.{◌>>=◌, result_of, refuse, refuse_if}
+use Rattle.rule_values.specs.Listed.{read_name, read_value}
+use Rattle.ldap_rules.specs.Case.{◌>>=◌, result_of, refuse, refuse_if, coded}
 use Rattle.ldap_rules.specs.Names.{rdns_above, entry_at}
-use Rattle.ldap_rules.specs.Values.{read_name, read_value}
 use Rattle.ldap_rules.specs.Writes.{read_object, within}
 
 -- ---- an entry as it shows, by the keys of its values: those of an attribute, where it has that attribute
@@ -40,9 +40,9 @@ told key keys = result_of (if list_any (bytes_eq key) keys then 6 else 5)
 
 unfoldable pub compared : ShownKeys → List ℕ → List ℕ → Result LdapResult LdapResult
 compared shown name value =
-    read_name name >>= λ attr.
+    coded (read_name name) >>= λ attr.
     there (shown attr) >>= λ keys.
-    read_value attr value >>= λ v.
+    coded (read_value attr value) >>= λ v.
     Ok (told v.key keys)
 
 -- ---- the cases, in their order

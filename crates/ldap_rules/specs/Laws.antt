@@ -1,12 +1,17 @@
 -- The change that a verdict makes at a CSN, and the entries that a view has.
-use Rattle.std.specs.Prelude.{◌≡◌, ◌<◌, Bool, true, ◌||◌, is_some, Option, Some, None}
+use Rattle.std.specs.Prelude.{◌≡◌, ◌<◌, Bool, true, ◌||◌, is_some, List, Option, Some, None}
+use Rattle.std.specs.List.{AllByRecursion}
 use Rattle.repl_data.specs.declared.csn.Csn.{Csn}
 use Rattle.repl_data.specs.declared.csn.Uid.{Uid}
 use Rattle.repl_data.specs.declared.change.Body.{Body}
+use Rattle.repl_data.specs.declared.change.Body.TheVariants.{Mod as ModifyEntry}
 use Rattle.repl_data.specs.declared.change.Change.{Change}
 use Rattle.repl_data.specs.Order.{uid_eq, csn_lt, suffix_id}
 use Rattle.repl_data.specs.Closed.{needed}
 use Rattle.repl_data.specs.View.{DirectoryView, present_at}
+use Rattle.attr_keys.specs.Table.{key_of}
+use Rattle.ldap_types.specs.declared.request.RawMod.{RawMod}
+use Rattle.rule_values.specs.Written.{is_modified}
 
 -- an add makes an entry whose id is the CSN
 abbrev pub target_at : Csn → Option Uid → Uid
@@ -30,3 +35,8 @@ pub record IsDrawnAbove (c : Csn) (needed_id : Uid) : Type 0 where
 -- the suffix entry, or an entry that the view has
 abbrev pub has_entry : DirectoryView → Uid → Bool
 has_entry v u = uid_eq u suffix_id || is_some (present_at v u)
+
+-- the body has a modification of each attribute that these modifications name
+abbrev pub ModifiesEach : List RawMod → Body → Type 0
+ModifiesEach given (ModifyEntry mods) = AllByRecursion (λ (m : RawMod). is_modified (record { name = key_of m.name }) mods ≡ true) given
+ModifiesEach given _ = ⊥

@@ -1,11 +1,10 @@
 pub mod Case
 pub mod Bind
 pub mod Names
-pub mod Values
 pub mod Ordered
-pub mod Counting
 pub mod Writes
 pub mod Add
+pub mod Modify
 pub mod Delete
 pub mod Rename
 pub mod Compare

@@ -6,7 +6,7 @@ use Rattle.repl_data.specs.declared.change.Body.{Body}
 use Rattle.repl_data.specs.View.{DirectoryView}
 use Rattle.ldap_types.specs.declared.request.Control.{Control}
 use Rattle.ldap_types.specs.declared.request.Op.{Op}
-use Rattle.ldap_types.specs.declared.request.Op.TheVariants.{Add as AddEntry, Delete, Rename, Compare}
+use Rattle.ldap_types.specs.declared.request.Op.TheVariants.{Add as AddEntry, Modify, Delete, Rename, Compare}
 use Rattle.ldap_types.specs.declared.request.Request.{Request}
 use Rattle.ldap_types.specs.declared.reply.Identity.{Identity}
 use Rattle.ldap_types.specs.declared.reply.LdapResult.{LdapResult}
@@ -16,6 +16,7 @@ use Rattle.ldap_rules.specs.declared.fault.Judged.{Judged}
 use Rattle.ldap_rules.specs.declared.fault.Judged.TheVariants.{Write, Answer}
 use Rattle.ldap_rules.specs.Case.{refuse}
 use Rattle.ldap_rules.specs.Add.{add_verdict}
+use Rattle.ldap_rules.specs.Modify.{modify_verdict}
 use Rattle.ldap_rules.specs.Delete.{delete_verdict}
 use Rattle.ldap_rules.specs.Rename.{rename_verdict}
 use Rattle.ldap_rules.specs.Compare.{compare_verdict}
@@ -35,6 +36,7 @@ is_update r bound = is_supplier bound && list_any is_update_control r.controls
 -- the operations whose rules are written here: those that write
 abbrev pub is_change : Op → Bool
 is_change (AddEntry object given) = true
+is_change (Modify object mods) = true
 is_change (Delete object) = true
 is_change (Rename object new_rdn delete_old new_superior) = true
 is_change _ = false
@@ -43,6 +45,7 @@ is_change _ = false
 abbrev pub is_judged : Op → Bool
 is_judged (Compare object name value) = true
 is_judged (AddEntry object given) = true
+is_judged (Modify object mods) = true
 is_judged (Delete object) = true
 is_judged (Rename object new_rdn delete_old new_superior) = true
 is_judged _ = false
@@ -72,6 +75,7 @@ answers (Err r) = Refuses r
 -- the verdict by the operation. (No call has an operation that is not judged.)
 abbrev pub op_verdict : DirectoryView → List Control → Identity → Op → Verdict
 op_verdict v controls bound (AddEntry object given) = adds (add_verdict v controls bound object given)
+op_verdict v controls bound (Modify object mods) = changes (modify_verdict v controls bound object mods)
 op_verdict v controls bound (Delete object) = changes (delete_verdict v controls bound object)
 op_verdict v controls bound (Rename object new_rdn delete_old new_superior) = changes (rename_verdict v controls bound object new_rdn delete_old new_superior)
 op_verdict v controls bound (Compare object name value) = answers (compare_verdict v controls object name value)

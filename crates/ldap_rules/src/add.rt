@@ -5,11 +5,10 @@ ghost use Rattle.repl_data.specs.View.{child_of};
 ghost use Rattle.ldap_rules.specs.Case.{Gives};
 ghost use Rattle.ldap_rules.specs.Add.{add_body, add_verdict};
 
-use crate::attributes::{any_has_too_many_values, attributes, has_class, with_name};
 use crate::case::{refuse_if, refused};
-use crate::counting::has_too_many;
 use crate::derived::has_derived_part;
 use crate::fault::JudgeFault;
+use crate::values::entry_attributes;
 use crate::walk::entry_at;
 use crate::writes::{all_writes, not_too_heavy};
 use ldap_types::{Code, Control, Identity, RawAttr};
@@ -55,25 +54,9 @@ fn add_below<V: View>(
         is_taken(view, parent, rdn),
         Code::ENTRY_ALREADY_EXISTS,
     )?;
-    let too_many = has_too_many(alloc, rdn, given)?;
-    refuse_if(alloc, too_many, Code::ADMIN_LIMIT_EXCEEDED)?;
-    let attrs = attributes(alloc, given)?;
-    let whole = with_name(alloc, rdn, attrs)?;
-    refuse_if(
-        alloc,
-        any_has_too_many_values(whole.as_slice()),
-        Code::CONSTRAINT_VIOLATION,
-    )?;
-    refuse_if(
-        alloc,
-        !has_class(whole.as_slice()),
-        Code::OBJECT_CLASS_VIOLATION,
-    )?;
-    Ok(Body::Add {
-        parent,
-        rdn: copy(rdn)?,
-        attrs: whole,
-    })
+    let attrs = entry_attributes(alloc, rdn, given)?;
+    let rdn = copy(rdn)?;
+    Ok(Body::Add { parent, rdn, attrs })
 }
 
 /// What an add of a name makes, by the relative names above the suffix.

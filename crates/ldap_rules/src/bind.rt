@@ -10,9 +10,9 @@ ghost use Rattle.ldap_rules.specs.Bind.{manager_name, manager_password, supplier
 
 use crate::case::result_of;
 use crate::names::same_keys;
-use crate::sorted::same_bytes;
 use dn_text::{Dn, DnFault, read_dn};
 use ldap_types::{Auth, BindRequest, Code, Identity, LdapResult, NoMemory};
+use repl_data::same_bytes;
 use std::alloc::Global;
 
 /// The name of the one who may write.

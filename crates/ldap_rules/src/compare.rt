@@ -12,14 +12,13 @@ ghost use Rattle.ldap_rules.specs.Names.{rdns_above};
 ghost use Rattle.ldap_rules.specs.Writes.{within};
 ghost use Rattle.ldap_rules.specs.Compare.{keys_in, shown_at, there, told, compared, is_critical, compare_verdict};
 
-use crate::attributes::{read_name, read_value};
 use crate::case::{refuse_if, refused, result_of};
 use crate::fault::JudgeFault;
 use crate::names::{object, rdns_above};
-use crate::sorted::same_bytes;
+use crate::values::{read_name, read_value};
 use crate::walk::entry_at;
 use ldap_types::{Code, Control, LdapResult};
-use repl_data::{AttrKey, Bytes, NoMemory, Shown, ShownList, Uid, Val, View};
+use repl_data::{AttrKey, Bytes, NoMemory, Shown, ShownList, Uid, Val, View, same_bytes};
 use std::alloc::Global;
 
 fn is_of(shown: &Shown, attr: &AttrKey) -> bool

@@ -9,6 +9,7 @@ use crate::case::refused;
 use crate::compare::judge_compare;
 use crate::delete::judge_delete;
 use crate::fault::{JudgeFault, Judged};
+use crate::modify::judge_modify;
 use crate::rename::judge_rename;
 use crate::writes::{has_update_control, is_supplier};
 use ldap_types::{Code, Identity, Op, Request};
@@ -33,25 +34,27 @@ pub fn is_update(request: &Request, bound: Identity) -> bool
     is_supplier(bound) && has_update_control(request.controls.as_slice())
 }
 
-/// Whether this operation writes, and `judge` has its rules: an add, a delete or a modify DN.
+/// Whether this operation writes, and `judge` has its rules: an add, a modify, a delete or a modify DN.
 pub fn is_change(op: &Op) -> bool
     ensures { result ≡ is_change op.now }
 {
     match op {
         Op::Add { .. } => true,
+        Op::Modify { .. } => true,
         Op::Delete { .. } => true,
         Op::Rename { .. } => true,
         _ => false,
     }
 }
 
-/// Whether `judge` has the rules of this operation: an add, a delete, a modify DN or a compare.
+/// Whether `judge` has the rules of this operation: an add, a modify, a delete, a modify DN or a compare.
 pub fn is_judged(op: &Op) -> bool
     ensures { result ≡ is_judged op.now }
 {
     match op {
         Op::Compare { .. } => true,
         Op::Add { .. } => true,
+        Op::Modify { .. } => true,
         Op::Delete { .. } => true,
         Op::Rename { .. } => true,
         _ => false,
@@ -77,10 +80,10 @@ fn superior(text: &Option<Bytes>) -> Option<&[u8]>
 ///
 /// Looks up, with `View::child`, each relative name from the suffix down; where the entry isn't there, also the
 /// nearest one above it, with `View::entry`, for its shown name. An add looks for its own name below the parent,
-/// a delete lists the children of its entry, a modify DN looks for the new name below the parent and at the
-/// entry's own values, and a compare copies what the entry shows. n values of an add take n log n comparisons,
-/// and each one moves those that are above it, so that n values of one attribute in falling order take n^2 / 2
-/// moves. A modify is not judged yet.
+/// a modify looks at the entry's own name and values, a delete lists the children of its entry, a modify DN looks
+/// for the new name below the parent and at the entry's own values, and a compare copies what the entry shows. n
+/// values of an add or a modify take n times the logarithm of n, in whatever order they come; a modify looks at each
+/// attribute of its entry once for each attribute that it names, and copies the values of those that it names.
 pub fn judge<V: View>(
     alloc: Global,
     view: &V,
@@ -97,6 +100,12 @@ pub fn judge<V: View>(
             let text = object.as_slice();
             let body = judge_add(alloc, view, controls, bound, text, attrs.as_slice())?;
             Ok(Judged::Write { target: None, body })
+        }
+        Op::Modify { object, mods } => {
+            let text = object.as_slice();
+            let (id, body) = judge_modify(alloc, view, controls, bound, text, mods.as_slice())?;
+            let target = Some(id);
+            Ok(Judged::Write { target, body })
         }
         Op::Delete { object } => {
             let (id, body) = judge_delete(alloc, view, controls, bound, object.as_slice())?;

@@ -1,28 +1,25 @@
 //! The rules of LDAP for writes: who may write, what is refused and in which order, and the change that a
-//! request that is accepted makes (RFC 4511, sections 4.2 and 4.7 to 4.10).
+//! request that is accepted makes (RFC 4511, sections 4.2 and 4.6 to 4.10).
 #![tactic(auto)]
 
 mod add;
-mod attributes;
 mod bind;
 mod case;
 mod compare;
-mod counting;
 mod delete;
 mod derived;
-mod entry_laws;
 mod fault;
 mod judging;
 mod laws;
+mod modify;
 mod name_keys;
 mod names;
 mod rename;
-mod sorted;
+mod values;
 mod walk;
 mod writes;
 
 pub use bind::{MANAGER, MANAGER_PASSWORD, SUPPLIER, SUPPLIER_PASSWORD, judge_bind};
-pub use entry_laws::carry_laws;
 pub use fault::{JudgeFault, Judged};
 pub use judging::{is_built, is_change, is_judged, is_update, judge};
 pub use laws::rule_laws;

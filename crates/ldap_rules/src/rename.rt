@@ -18,13 +18,12 @@ use crate::delete::is_suffix;
 use crate::derived::has_derived_part;
 use crate::fault::JudgeFault;
 use crate::names::{count_above, object};
-use crate::sorted::same_bytes;
 use crate::walk::entry_at;
 use crate::writes::{all_writes, light_change};
 use attr_keys::is_single;
 use dn_text::{Dn, DnFault, RdnList, read_dn};
 use ldap_types::{Code, Control, Identity};
-use repl_data::{Ava, AvaList, Body, Bytes, NoMemory, Rdn, Shown, Uid, Val, View};
+use repl_data::{Ava, AvaList, Body, Bytes, NoMemory, Rdn, Shown, Uid, Val, View, same_bytes};
 use std::alloc::Global;
 
 /// The one relative name of a name.
@@ -231,7 +230,7 @@ fn any_is_second(own: &[Shown], dropped: &[Ava], avas: &[Ava]) -> bool
     avas.iter().any(|ava| is_second(own, dropped, ava))
 }
 
-fn own_values<V: View>(view: &V, id: Uid) -> &[Shown]
+pub(crate) fn own_values<V: View>(view: &V, id: Uid) -> &[Shown]
     ensures { result.now ≡ own_values (V.view view.now) id }
 {
     match view.own(id) {

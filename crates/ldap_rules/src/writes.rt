@@ -9,10 +9,9 @@ ghost use Rattle.ldap_rules.specs.Writes.{is_update_control, is_unknown, is_mana
 use crate::case::refuse_if;
 use crate::fault::JudgeFault;
 use crate::names::{object, rdns_above};
-use crate::sorted::same_bytes;
 use dn_text::RdnList;
 use ldap_types::{Code, Control, Identity};
-use repl_data::{Body, Uid, weight};
+use repl_data::{Body, Uid, same_bytes, weight};
 use std::alloc::Global;
 
 /// The control of an update that one server sends to another.

@@ -9,7 +9,7 @@ use Rattle.vector_core.proofs.Lists.{if_true, if_false}
 use Rattle.pending_core.specs.declared.generator.Generator.{Generator}
 use Rattle.pending_core.specs.Draw.{draw, generator_at, is_before, raised_to}
 use Rattle.node_core.specs.Node.{Node}
-use Rattle.node_core.specs.Steps.{NoTicket, Full, moment_of, csn_at, csn_for, begun_at, begin_answer}
+use Rattle.node_core.specs.Steps.{Full, moment_of, csn_at, csn_for, begun_at, begin_answer}
 use Rattle.node_core.specs.Sound.{IsPlain, number_at, IsReached}
 use Rattle.node_core.proofs.Orders.{cmp_less, cmp_equal, cmp_greater}
 

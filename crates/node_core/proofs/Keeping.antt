@@ -23,7 +23,7 @@ use Rattle.pending_core.specs.Pending.{IsAbove, without}
 use Rattle.change_log.specs.Log.{csns_of}
 use Rattle.repl_data.specs.declared.change.Suffix.{Suffix}
 use Rattle.node_core.specs.Node.{Node, front, new_node}
-use Rattle.node_core.specs.Steps.{NoTicket, Full, Exhausted, begin_answer, begun_at, csn_at, after_begin, after_apply}
+use Rattle.node_core.specs.Steps.{Full, Exhausted, begin_answer, begun_at, csn_at, after_begin, after_apply}
 use Rattle.node_core.specs.Sound.{IsPlain, IsSoundNode}
 use Rattle.node_core.specs.Kept.{IsKept, IsNext}
 use Rattle.node_core.proofs.Orders.{number_lt}

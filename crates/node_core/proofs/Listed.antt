@@ -5,6 +5,7 @@ use Rattle.std.proofs.lemmas.Bool.{cases_Bool, cases_eq, cases_order}
 use Rattle.std.proofs.lemmas.List.Folds.{list_any_more}
 use Rattle.repl_data.specs.declared.csn.Csn.{Csn}
 use Rattle.repl_data.specs.Order.{zero_csn, number_of}
+use Rattle.repl_data.proofs.Bools.{or_true}
 use Rattle.repl_data.proofs.CsnTests.{csn_lt-irreflexive}
 use Rattle.vector_core.specs.Greatest.{later_of, greatest}
 use Rattle.vector_core.specs.Vector.{IsVector, IsRaised, entry_of}
@@ -148,10 +149,6 @@ listed_more n heads vector new i l before is raised = record {
       ];
 }
   where
-    or_true : (b : Bool) → (b || true) ≡ true
-    or_true true = refl
-    or_true false = refl
-
     or_false : (b : Bool) → (b || false) ≡ b
     or_false true = refl
     or_false false = refl

@@ -25,7 +25,7 @@ use Rattle.node_core.specs.declared.ticket.Receipt.{Receipt}
 use Rattle.pending_core.specs.Draw.{generator_at}
 use Rattle.change_log.specs.Log.{csns_of}
 use Rattle.node_core.specs.Node.{Node}
-use Rattle.node_core.specs.Steps.{Judge, CommitAnswer, Stale, Refused, CommitExhausted, KeeperFailed, Committed, NoTicket, Full, Exhausted, begin_answer, after_begin, verdict_at, commit_answer, after_commit, offer, apply_answer, after_apply, acquire_fault, after_acquire}
+use Rattle.node_core.specs.Steps.{Judge, CommitAnswer, Stale, Refused, CommitExhausted, KeeperFailed, Committed, Full, Exhausted, begin_answer, after_begin, verdict_at, commit_answer, after_commit, offer, apply_answer, after_apply, acquire_fault, after_acquire}
 
 -- ---- how a node is reached
 

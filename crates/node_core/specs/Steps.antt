@@ -26,7 +26,7 @@ use Rattle.vector_core.specs.declared.answers.AcquireFault.{AcquireFault}
 use Rattle.vector_core.specs.declared.answers.AcquireFault.TheVariants as acquire
 use Rattle.pending_core.specs.declared.generator.Generator.{Generator}
 use Rattle.pending_core.specs.Draw.{draw, generator_at, raised_to}
-use Rattle.pending_core.specs.Pending.{without}
+use Rattle.pending_core.specs.Pending.{places, without}
 use Rattle.node_core.specs.Node.{Node, front, is_covered, update_of}
 
 abbrev pub csn_at : ℕ → ℕ × ℕ → Csn
@@ -36,10 +36,6 @@ abbrev pub moment_of : Csn → Generator
 moment_of c = generator_at (c.time, c.seq)
 
 -- ---- limits
-
--- how many CSNs may be pending at a node
-abbrev pub pending_limit : ℕ
-pending_limit = 1024
 
 -- how far a time of another node may be ahead: a day, in seconds
 abbrev pub day : ℕ
@@ -57,7 +53,7 @@ begun_at n None = Err (Exhausted (n.last.time, n.last.seq))
 begun_at n (Some pair) = Ok (csn_at n.rid pair)
 
 abbrev pub begin_answer : Node → ℕ → Result Csn NoTicket
-begin_answer n now = if nat_le pending_limit (length n.pending) then Err Full else begun_at n (draw n.last now)
+begin_answer n now = if nat_le places (length n.pending) then Err Full else begun_at n (draw n.last now)
 
 abbrev pub after_begin : Node → Result Csn NoTicket → Node
 after_begin n (Ok csn) = record n { last = moment_of csn; pending = n.pending ++ csn ∷ [] }

@@ -1,6 +1,6 @@
 //! What a node keeps through its steps.
 
-ghost use Rattle.std.specs.Prelude.{◌≡◌, ℕ, ◌<◌, ◌≤◌, true, Bool, List, Contains, Option, Some};
+ghost use Rattle.std.specs.Prelude.{◌≡◌, ◌≢◌, ℕ, ◌<◌, ◌≤◌, true, Bool, List, Contains, Option, Some, Err};
 ghost use Rattle.repl_data.specs.declared.csn.Csn.{Csn};
 ghost use Rattle.repl_data.specs.declared.csn.Uid.{Uid};
 ghost use Rattle.repl_data.specs.declared.change.Body.{Body};
@@ -12,10 +12,11 @@ ghost use Rattle.ldap_rules.specs.Verdict.{Verdict, Writes};
 ghost use Rattle.vector_core.specs.declared.answers.AcquireFault.{AcquireFault};
 ghost use Rattle.vector_core.specs.Vector.{entry_of, IsVector};
 ghost use Rattle.node_core.specs.Node.{Node, front, vector_of, update_of};
-ghost use Rattle.node_core.specs.Steps.{judge_view, begin_answer, after_begin, commit_answer, after_commit, ended, apply_answer, after_apply, after_acquire, released, is_prev, offer};
+ghost use Rattle.node_core.specs.Steps.{judge_view, begin_answer, after_begin, commit_answer, after_commit, ended, apply_answer, after_apply, acquire_fault, after_acquire, released, is_prev, offer};
 ghost use Rattle.node_core.specs.Sound.{IsSoundNode, GoesOn, IsOpen, IsSoundWrite, IsSoundJudge};
 
 use ldap_rules::rule_laws;
+use vector_core::{AcquireFault, ApplyFault};
 
 /// A node stays sound and goes on through each of its steps: nothing that it has taken is lost, the own entry of its
 /// vector never falls, and nothing at or below that entry is committed later.
@@ -50,6 +51,15 @@ pub fn arrival_laws()
 
     // So does an apply of any update.
     ensures apply { (n : Node) (from : ℕ) (u : Update) (now : ℕ) (fails : Bool) → IsSoundNode n → u.change.csn.seq < 65536 → u.change.csn.rid < 65536 → IsArrival n.taken → IsArrival (after_apply n u.change (apply_answer n from u now fails)).taken }
+{}
+
+/// What no step of a node answers: want of memory, which the calls of a node have beside its steps.
+pub fn answer_laws()
+    // An update is not answered so.
+    ensures apply { (n : Node) (from : ℕ) (u : Update) (now : ℕ) (fails : Bool) → apply_answer n from u now fails ≢ Err ApplyFault.NoMemory }
+
+    // Nor is a supplier that would begin.
+    ensures acquire { (n : Node) (suffix : List ℕ) (from : ℕ) (vector : List Csn) (now : ℕ) → acquire_fault n suffix from vector now ≢ Some AcquireFault.NoMemory }
 {}
 
 /// What a node sends of a change.

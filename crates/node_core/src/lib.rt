@@ -16,7 +16,7 @@ mod ticket;
 pub use calls::NodeCalls;
 pub use client::is_client_write;
 pub use fault::{BeginFault, CommitFault, used_up};
-pub use laws::{arrival_laws, judge_laws, node_laws, update_laws, vector_laws};
+pub use laws::{answer_laws, arrival_laws, judge_laws, node_laws, update_laws, vector_laws};
 pub use ldap_types::Identity;
 pub use node::NodeState;
 pub use ticket::{Receipt, Ticket};

@@ -1,7 +1,6 @@
 //! `NodeState`: its making, begin, abort, settle, acquire, release.
 
 ghost use Rattle.std.specs.Prelude.{◌≡◌, ◌≢◌, ◌<◌, length, Ok, Err, Some, None, option_map, IfOk, MatchOption};
-ghost use Rattle.repl_data.specs.Order.{bytes_eq};
 ghost use Rattle.vector_core.specs.Greatest.{greatest, later_of};
 ghost use Rattle.pending_core.specs.Draw.{draw};
 ghost use Rattle.std.specs.List.{AllByRecursion};
@@ -17,7 +16,7 @@ use crate::fault::BeginFault;
 use crate::ticket::{Receipt, Ticket};
 use change_log::ChangeLog;
 use pending_core::{Generator, PLACES, PendingList};
-use repl_data::{Change, Csn, NoMemory, Suffix};
+use repl_data::{Change, Csn, NoMemory, Suffix, same_bytes};
 use std::alloc::{AllocError, Global};
 use std::marker::Model;
 use urp_tree::UrpTree;
@@ -200,7 +199,7 @@ impl NodeState {
         ensures fault { result ≡ acquire_fault self.now start.now.suffix start.now.rid start.now.front now }
         ensures memory { result ≢ Some AcquireFault.NoMemory }
     {
-        if !same(self.suffix.name.as_slice(), start.suffix.as_slice()) {
+        if !same_bytes(self.suffix.name.as_slice(), start.suffix.as_slice()) {
             return Some(AcquireFault::WrongSuffix);
         }
         if start.rid == self.rid {
@@ -226,12 +225,6 @@ fn copied_suffix(suffix: &Suffix) -> Result<Suffix, AllocError>
     ensures { IfOk result (λ copy. copy ≡ suffix.now) }
 {
     suffix.clone()
-}
-
-fn same(a: &[u8], b: &[u8]) -> bool
-    ensures { result ≡ bytes_eq a.now b.now }
-{
-    a.cmp(b).is_eq()
 }
 
 /// The next CSN of the replica; none, and nothing changes, where the generator is at its end.

@@ -19,13 +19,15 @@ use Rattle.repl_data.proofs.Sound.{neither}
 use Rattle.ldap_types.specs.declared.request.Control.{Control}
 use Rattle.ldap_types.specs.declared.request.RawAttr.{RawAttr}
 use Rattle.ldap_types.specs.declared.reply.Identity.{Identity}
-use Rattle.ldap_rules.specs.Case.{◌>>=◌}
+use Rattle.rule_values.specs.Listed.{named_keys, attributes_beside, with_name, has_too_many_values, entry_attributes}
+use Rattle.ldap_rules.specs.Case.{◌>>=◌, coded}
 use Rattle.ldap_rules.specs.Names.{entry_at}
-use Rattle.ldap_rules.specs.Values.{named_keys, attribute_count, attributes_beside, with_name, has_too_many_values, is_class}
 use Rattle.ldap_rules.specs.Writes.{all_writes, not_too_heavy}
 use Rattle.ldap_rules.specs.Add.{add_body, add_verdict}
 use Rattle.ldap_rules.specs.Laws.{change_at, needed_at, IsDrawnAbove}
-use Rattle.ldap_rules.proofs.Goods.{by_pass, by_free, AreRead, attributes_read}
+use Rattle.ldap_rules.proofs.Chains.{by_pass, by_free, by_code, same_ok}
+use Rattle.ldap_rules.proofs.Goods.{AreRead, attributes_read}
+use Rattle.ldap_rules.proofs.Written.{listed_as}
 use Rattle.ldap_rules.proofs.Named.{parts_read}
 use Rattle.ldap_rules.proofs.There.{entry_there}
 use Rattle.plain_effect.specs.Above.{IsAbove}
@@ -51,22 +53,21 @@ body_accepted v given (rdn ∷ above) body h =
     by_free (list_any is_derived_ava rdn.avas) 64 _ body h (λ plain h1.
     by_pass (entry_at v above) _ body h1 (λ parent at h2.
     by_free (is_some (child_of v parent rdn)) 68 _ body h2 (λ free h3.
-    by_free (nat_lt 500 (attribute_count rdn given)) 11 _ body h3 (λ count h4.
-    by_pass (attributes_beside [] given) _ body h4 (λ attrs listed h5.
-    by_free (list_any has_too_many_values (with_name rdn attrs)) 19 _ body h5 (λ single h6.
-    by_free (not (list_any is_class (with_name rdn attrs))) 65 _ body h6 (λ class h7.
+    by_pass (coded (entry_attributes rdn given)) _ body h3 (λ whole coded_as h4.
+    by_code (entry_attributes rdn given) whole coded_as (λ made.
+    let l = listed_as rdn given whole made in
     record {
       rdn = rdn;
       above = above;
       parent = parent;
-      attrs = attrs;
+      attrs = l.attrs;
       plain = plain;
       at = at;
       free = free;
-      listed = listed;
-      single = single;
-      is = (let e : Add parent rdn (with_name rdn attrs) ≡ body = cc in sym e);
-    })))))))
+      listed = l.listed;
+      single = l.single;
+      is = sym (same_ok (Add parent rdn whole) body h4) ∙ ap (Add parent rdn) l.whole;
+    })))))
 
 accepted : (v : DirectoryView) (controls : List Control) (bound : Identity) (object : List ℕ) (given : List RawAttr) (body : Body) → add_verdict v controls bound object given ≡ Ok body → IsAccepted v given body
 accepted v controls bound object given body h =

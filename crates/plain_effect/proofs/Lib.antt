@@ -4,3 +4,12 @@ pub mod Holder
 pub mod Added
 pub mod Effect
 pub mod Accepted
+pub mod Modifies
+pub mod Normal
+pub mod Choices
+pub mod Below
+pub mod Runs
+pub mod Whole
+pub mod Attrs
+pub mod WrittenMods
+pub mod AcceptedMods

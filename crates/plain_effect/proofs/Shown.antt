@@ -206,7 +206,7 @@ and_false : (b : Bool) → (b && false) ≡ false
 and_false true = refl
 and_false false = refl
 
-not_before_itself : (rdn : Rdn) (t : AttrKey) (v : ValFacts) → shows_before rdn t v v ≡ false
+pub not_before_itself : (rdn : Rdn) (t : AttrKey) (v : ValFacts) → shows_before rdn t v v ≡ false
 not_before_itself rdn t v =
     by_place rdn t v v ∙ same_place (is_in_name rdn t v.key) (level v v)
     ∙ (λ i. csn_lt-irreflexive v.up i || (csn_eq v.up v.up && is_lt (tied_itself bytes_total v.key i))) ∙ and_false (csn_eq v.up v.up)

@@ -16,7 +16,9 @@ mod write;
 pub use extended::{end_name, start_name};
 pub use fault::{WireFault, WireWhy};
 pub use laws::wire_laws;
-pub use session::{End, read_end, read_start, read_started, write_end, write_start, write_started};
+pub use session::{
+    End, read_end, read_start, read_started, started_reply, write_end, write_start, write_started,
+};
 pub use update::{is_update, read_update, update_name};
 pub use vector_core::{Start, Vector};
 pub use write::write_update;

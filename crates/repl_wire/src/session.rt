@@ -95,8 +95,8 @@ pub fn read_start(alloc: Global, request: &Request) -> Result<Start, WireFault>
 }
 
 /// The answer to a start that is accepted: the code 0, and the consumer's vector.
-pub fn write_started(alloc: Global, id: u32, vector: &Vector) -> Result<Bytes, NoMemory>
-    ensures { IfOk result (λ b. b ≡ started_bytes id vector.now) }
+pub fn started_reply(alloc: Global, id: u32, vector: &Vector) -> Result<Reply, NoMemory>
+    ensures { IfOk result (λ r. r ≡ started_reply id vector.now) }
 {
     let value = vector_bytes(alloc, vector)?;
     let result = LdapResult {
@@ -104,14 +104,21 @@ pub fn write_started(alloc: Global, id: u32, vector: &Vector) -> Result<Bytes, N
         matched: Bytes::new(alloc),
         text: Bytes::new(alloc),
     };
-    let reply = Reply {
+    Ok(Reply {
         id,
         op: ReplyOp::Extended {
             result,
             oid: None,
             value: Some(value),
         },
-    };
+    })
+}
+
+/// The bytes of the answer to a start that is accepted.
+pub fn write_started(alloc: Global, id: u32, vector: &Vector) -> Result<Bytes, NoMemory>
+    ensures { IfOk result (λ b. b ≡ started_bytes id vector.now) }
+{
+    let reply = started_reply(alloc, id, vector)?;
     let mut out = Bytes::new(alloc);
     write_reply(alloc, &mut out, &reply)?;
     Ok(out)

@@ -1,4 +1,4 @@
-//! What an add writes.
+//! What is written: adds, and the parts of other bodies.
 
 use crate::adds::judged;
 use crate::requests::read_add;
@@ -6,7 +6,7 @@ use case_lines::{CaseFault, Fields};
 use case_views::tell_optional_uid;
 use ldap_rules::{Identity, JudgeFault, Judged};
 use plain_view::PlainView;
-use repl_data::{Attr, Ava, Body, Bytes, Rdn, Val};
+use repl_data::{Attr, Ava, Body, Bytes, Mod, ModKind, Rdn, Val};
 use std::alloc::Global;
 use std::str;
 
@@ -43,14 +43,40 @@ pub fn tell_rdn(told: &mut String, rdn: &Rdn) -> Result<(), CaseFault> {
     tell_parts(told, rdn.avas.as_slice())
 }
 
+fn tell_vals(told: &mut String, vals: &[Val]) -> Result<(), CaseFault> {
+    for val in vals {
+        tell_val(told, val)?;
+    }
+    Ok(())
+}
+
+fn kind_text(kind: ModKind) -> &'static str {
+    match kind {
+        ModKind::Add => "add ",
+        ModKind::Delete => "delete ",
+        ModKind::Replace => "replace ",
+    }
+}
+
+/// Appends the modifications with a bar between each two: what each does, its attribute, and its values.
+pub fn tell_mods(told: &mut String, mods: &[Mod]) -> Result<(), CaseFault> {
+    let mut between = "";
+    for one in mods {
+        told.push_str(between)?;
+        told.push_str(kind_text(one.kind))?;
+        tell(told, &one.attr.name)?;
+        tell_vals(told, one.vals.as_slice())?;
+        between = "|";
+    }
+    Ok(())
+}
+
 /// Appends the attributes, each with a bar before it.
 fn tell_attrs(told: &mut String, attrs: &[Attr]) -> Result<(), CaseFault> {
     for attr in attrs {
         told.push_str("|")?;
         tell(told, &attr.attr.name)?;
-        for val in attr.vals.as_slice() {
-            tell_val(told, val)?;
-        }
+        tell_vals(told, attr.vals.as_slice())?;
     }
     Ok(())
 }

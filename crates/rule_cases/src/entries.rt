@@ -1,7 +1,7 @@
 //! Deletes, modify DNs and compares of entries: why they are refused, what they write, and what is answered.
 
 use crate::adds::{judged, tell_judged, tell_refusal};
-use crate::bodies::{tell_parts, tell_rdn};
+use crate::bodies::{tell_mods, tell_parts, tell_rdn};
 use crate::requests::{next_bytes, next_controls, read_identity};
 use case_lines::{CaseFault, Fields};
 use case_views::tell_optional_uid;
@@ -60,7 +60,8 @@ fn next_compare(alloc: Global, fields: &mut Fields<'_>) -> Result<Op, CaseFault>
     })
 }
 
-/// Appends the entry that is changed, and `del`, or `ren` with the new name and the values that go.
+/// Appends the entry that is changed, and `del`, or `ren` with the new name and the values that go, or `mod` with
+/// the modifications.
 fn tell_change(told: &mut String, target: Option<Uid>, body: &Body) -> Result<(), CaseFault> {
     tell_optional_uid(told, target)?;
     match body {
@@ -74,12 +75,19 @@ fn tell_change(told: &mut String, target: Option<Uid>, body: &Body) -> Result<()
             told.push_str("|")?;
             tell_parts(told, dropped.as_slice())
         }
+        Body::Mod { mods } => {
+            told.push_str(" mod ")?;
+            tell_mods(told, mods.as_slice())
+        }
         _ => Err(CaseFault::Argument),
     }
 }
 
 /// Appends the refusal, the answer, or what is written.
-fn tell_verdict(told: &mut String, verdict: &Result<Judged, JudgeFault>) -> Result<(), CaseFault> {
+pub fn tell_verdict(
+    told: &mut String,
+    verdict: &Result<Judged, JudgeFault>,
+) -> Result<(), CaseFault> {
     match verdict {
         Ok(Judged::Write { target, body }) => tell_change(told, *target, body),
         Ok(Judged::Answer(answer)) => {

@@ -6,6 +6,7 @@ mod adds;
 mod binds;
 mod bodies;
 mod entries;
+mod modifies;
 mod requests;
 
 use case_lines::{CaseFault, Fields, Subjects, or_memory, run_cases};
@@ -52,6 +53,8 @@ impl Subjects for Rules {
             "delete" => entries::delete(alloc, &self.view, fields, told),
             "rename" => entries::rename(alloc, &self.view, fields, told),
             "rename_code" => entries::rename_code(alloc, &self.view, fields, told),
+            "modify" => modifies::modify(alloc, &self.view, fields, told),
+            "modify_code" => modifies::code(alloc, &self.view, fields, told),
             "compare" => entries::compare(alloc, &self.view, fields, told),
             "bind" => binds::answer(alloc, fields, told),
             _ => Err(CaseFault::Subject),

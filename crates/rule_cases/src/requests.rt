@@ -28,7 +28,7 @@ fn raw_vals(alloc: Global, text: &[u8]) -> Result<BytesList, NoMemory> {
 }
 
 /// A name, and after an equals sign values.
-fn raw_attr(alloc: Global, text: &[u8]) -> Result<RawAttr, NoMemory> {
+pub fn raw_attr(alloc: Global, text: &[u8]) -> Result<RawAttr, NoMemory> {
     match text.iter().position(|byte| *byte == b'=') {
         Some(at) => Ok(RawAttr {
             name: Bytes::from_slice(alloc, &text[..at])?,
@@ -50,7 +50,7 @@ fn put_attrs(alloc: Global, text: &[u8], attrs: &mut RawAttrList) -> Result<(), 
 }
 
 /// An attribute with one value.
-fn put_one(
+pub fn put_one(
     alloc: Global,
     name: &[u8],
     value: &[u8],

@@ -1,5 +1,5 @@
 //! Cases of streams that are served, and of what hands streams out, holds up and tells the time. The first
-//! word of a case names the part, the second the call.
+//! word of a case names the part, the second the call. The last line is what comes back over real sockets.
 #![tactic(auto)]
 
 mod edges;
@@ -8,10 +8,8 @@ mod socket;
 
 use case_lines::{CaseFault, Fields, Subjects, run_cases};
 use std::alloc::Global;
-use std::net::Net;
 use std::process::ExitCode;
 use std::sync::Wait;
-use std::thread::Threads;
 use std::time::Clock;
 use std::{env, io, process};
 
@@ -19,8 +17,6 @@ use std::{env, io, process};
 #[derive(Drop)]
 struct StreamCases<'a, R> {
     rt: &'a R,
-    /// A port that no other process of the same number uses.
-    port: u16,
     sent: Vec<u8>,
 }
 
@@ -38,7 +34,7 @@ impl<R> StreamCases<'_, R> {
     }
 }
 
-impl<R: Net + Threads + Wait + Clock + Sync> Subjects for StreamCases<'_, R> {
+impl<R: Wait + Clock> Subjects for StreamCases<'_, R> {
     fn answer(
         &mut self,
         alloc: Global,
@@ -50,7 +46,6 @@ impl<R: Net + Threads + Wait + Clock + Sync> Subjects for StreamCases<'_, R> {
             "client" => self.take(alloc, fields),
             "serve" => served::answer(self.rt, alloc, self.sent.as_slice(), fields, told),
             "edge" => edges::answer(alloc, fields, told),
-            "socket" => socket::answer(self.rt, alloc, self.port, self.sent.as_slice(), told),
             "clock" => edges::later_than(self.rt, fields, told),
             _ => Err(CaseFault::Subject),
         }
@@ -74,14 +69,14 @@ fn main(rt: HostRuntime) -> ExitCode {
         let served = socket::serve_all(&rt, rt.alloc(), port);
         return ExitCode::from(u8::from(served.is_err()));
     }
-    let port = 20_000 + (process::id(rt.process()) % 40_000) as u16;
     let sent = Vec::new(rt.alloc());
-    run_cases(
-        &rt,
-        &mut StreamCases {
-            rt: &rt,
-            port,
-            sent,
-        },
-    )
+    let status = run_cases(&rt, &mut StreamCases { rt: &rt, sent });
+    // A port that no other process of the same number uses.
+    let port = 20_000 + (process::id(rt.process()) % 40_000) as u16;
+    let mut told = String::new(rt.alloc());
+    let answered = socket::answer(&rt, rt.alloc(), port, socket::ASKED, &mut told);
+    if answered.is_err() || println!(rt; "over sockets: {told}").is_err() {
+        return ExitCode::from(1);
+    }
+    status
 }

@@ -1,7 +1,6 @@
 //! Real sockets: a client and a machine on the loopback address, each in a thread of its own.
 //!
-//! - `socket`: what comes back from a machine of a new connection to a new node where the client sends all
-//!   its bytes at once, the last of them an unbind.
+//! The client sends all its bytes at once, the last of them an unbind, to a new connection of a new node.
 //!
 //! With the words `serve PORT` in place of files the program serves streams at this port, one after the
 //! other, until it is ended: `bench/echo.sh` measures it.
@@ -11,12 +10,16 @@ use case_lines::{CaseFault, or_memory, tell_bytes};
 use front_tcp::{Tally, serve_stream};
 use io_edge::{Acceptor, Dialer, Stream, TcpDialer, TcpDoor};
 use std::alloc::Global;
-use std::net::{IpAddr, Ipv4Addr, Net, SocketAddr};
+use std::net::{IpAddr, Ipv4Addr, Net, SocketAddr, TcpListener, TcpStream};
 use std::sync::Wait;
 use std::thread::{Threads, join, yield_now};
 
 /// How often a client tries to open a stream.
 const TRIES: u32 = 10_000_000;
+
+/// A bind as the manager and an unbind.
+pub const ASKED: &[u8] =
+    b"0\x1c\x02\x01\x01`\x17\x02\x01\x03\x04\ncn=manager\x80\x06secret0\x05\x02\x01\x05B\x00";
 
 const LOOPBACK: IpAddr = IpAddr::V4(Ipv4Addr::LOCALHOST);
 
@@ -73,13 +76,16 @@ where
 }
 
 /// What comes back over real sockets, at this port.
-pub fn answer<R: Net + Threads + Wait + Sync>(
+pub fn answer<R>(
     rt: &R,
     alloc: Global,
     port: u16,
     sent: &[u8],
     told: &mut String,
-) -> Result<(), CaseFault> {
+) -> Result<(), CaseFault>
+where
+    R: Net<Listener = TcpListener, Stream = TcpStream> + Threads + Wait + Sync,
+{
     let address = SocketAddr::new(LOOPBACK, port);
     let (served, heard) = join(
         rt,

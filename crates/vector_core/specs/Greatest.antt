@@ -1,13 +1,12 @@
 -- The greatest of a list of CSNs.
-use Rattle.std.specs.Prelude.{if◌then◌else◌, List, [], ◌∷◌}
+use Rattle.std.specs.Prelude.{List}
 use Rattle.repl_data.specs.declared.csn.Csn.{Csn}
-use Rattle.repl_data.specs.Order.{csn_lt, zero_csn}
+use Rattle.repl_data.specs.Order.{csn_max, greatest as greatest_stamp}
 
 -- the greater of two
 abbrev pub later_of : Csn → Csn → Csn
-later_of a b = if csn_lt a b then b else a
+later_of = csn_max
 
--- the greatest of a list, and zero where the list is empty
+-- The greatest of a list, and zero where the list is empty. (It is that of `repl_data`, which a proof opens where it has to.)
 unfoldable pub greatest : List Csn → Csn
-greatest [] = zero_csn
-greatest (c ∷ cs) = later_of c (greatest cs)
+greatest = greatest_stamp

@@ -1,5 +1,5 @@
 -- A call at one node, at whatever time, leaves a world as its type keeps it.
-use Rattle.std.proofs.Common.{◌&&◌, nat_lt, nat_le, ◌≡◌, ◌≢◌, ℕ, ◌⊎◌, inl, inr, true, false, ne_eqb, List, sym, ap, subst, ◌∙◌}
+use Rattle.std.proofs.Common.{◌≡◌, ◌≢◌, ℕ, ◌⊎◌, inl, inr, false, ne_eqb, List, sym, ap, subst, ◌∙◌}
 use Rattle.std.specs.Prelude.{Result, Ok, Err, MatchResult}
 use Rattle.std.proofs.lemmas.Bool.{cases_eq}
 use Rattle.vector_core.proofs.Lists.{if_false}
@@ -27,10 +27,10 @@ use Rattle.node_core.specs.Calls.{Begins, Commits, CommitsUnder, Acquires, Appli
 use Rattle.node_core.proofs.OpenTickets.{ended-stale}
 use Rattle.node_core.proofs.Verdicts.{open-from}
 use Rattle.world_core.specs.declared.event.Event.TheVariants.{Clock}
-use Rattle.world_core.specs.World.{World, Happens, Call, CallBegin, CallCommit, CallEnd, CallAcquire, CallRelease, CallApply, called, is_node, node_of, with_node, node_in, put}
+use Rattle.world_core.specs.World.{World, Happens, Call, CallBegin, CallCommit, CallEnd, CallAcquire, CallRelease, CallApply, called, node_of, with_node, node_in, put}
 use Rattle.world_core.specs.Laws.{IsNode, IsNoTicket, MayCall, IsFitting}
 use Rattle.world_core.specs.Taken.{IsKept}
-use Rattle.world_core.proofs.Honest.{length-with_node, node_of-here}
+use Rattle.world_core.proofs.Honest.{node_of-here}
 use Rattle.world_core.proofs.Outcomes.{same_node}
 use Rattle.world_core.proofs.Failures.{fault-says}
 use Rattle.world_core.proofs.Runs.{came-on}

@@ -1,19 +1,17 @@
 -- The laws over every run.
-use Rattle.std.proofs.Common.{◌≡◌, ℕ, zero, suc, ◌+◌, ◌<◌, ◌≤◌, inl, inr, false, List, [], ◌∷◌, ◌++◌, refl, sym, ap, subst, ◌∙◌, arith, Contains, length, slice_index_or}
-use Rattle.std.proofs.lemmas.Bool.{cases_eq, cases_Bool, and_cases, true≢false}
-use Rattle.repl_data.specs.declared.csn.Csn.{Csn}
+use Rattle.std.proofs.Common.{◌≡◌, ℕ, zero, suc, ◌+◌, ◌<◌, ◌≤◌, inl, inr, List, [], ◌∷◌, ◌++◌, refl, sym, ap, subst, ◌∙◌, arith, Contains, length, slice_index_or}
+use Rattle.std.proofs.lemmas.Bool.{cases_eq}
 use Rattle.repl_data.specs.declared.change.Change.{Change}
 use Rattle.repl_data.specs.declared.change.Suffix.{Suffix}
 use Rattle.repl_data.specs.declared.change.Update.{Update}
-use Rattle.repl_data.specs.Order.{csn_lt, zero_csn, number_of}
+use Rattle.repl_data.specs.Order.{zero_csn, number_of}
 use Rattle.vector_core.specs.Vector.{entry_of}
-use Rattle.vector_core.proofs.Lists.{Contains-nil, Contains-here, Contains-there}
-use Rattle.pending_core.specs.Pending.{is_free}
+use Rattle.vector_core.proofs.Lists.{Contains-nil}
 use Rattle.node_core.specs.Node.{Node, new_node, front, vector_of}
 use Rattle.node_core.specs.Steps.{Judge}
-use Rattle.node_core.specs.Sound.{IsPlain, IsSoundNode}
-use Rattle.node_core.proofs.Orders.{number_of-zero, number_of-above_0, not_lt_number}
-use Rattle.node_core.proofs.Fronts.{front-zero, front-among, front_own-above, front_own-among, front_other-above, is_free-below}
+use Rattle.node_core.specs.Sound.{IsSoundNode}
+use Rattle.node_core.proofs.Orders.{number_of-zero}
+use Rattle.node_core.proofs.Fronts.{front-among, front_own-above, front_other-above}
 use Rattle.node_core.proofs.Vectors.{entry_of-vector_of}
 use Rattle.node_core.proofs.Moves.{goes_on-refl, goes_on-then}
 use Rattle.node_core.proofs.OwnEntries.{own_entry}

@@ -23,8 +23,8 @@ use Rattle.world_core.specs.declared.event.Event.{Event}
 use Rattle.world_core.specs.declared.event.Event.TheVariants.{Clock, Start, Commit, Settle, Abort, Acquire, Release, Offer, Deliver, Vector, Dump}
 use Rattle.world_core.specs.declared.event.Happened.{Happened}
 use Rattle.world_core.specs.declared.event.Happened.TheVariants as what
-use Rattle.world_core.specs.World.{World, Ticket, Session, Offered, Outcome, Call, CallBegin, CallCommit, CallEnd, CallAcquire, CallRelease, CallApply, Deed, Happens, Calls, called, after, after_all, node_of, with_node, node_in, is_node, new_world, ticket_in, with_ticket, new_ticket, session_in, update_in, ticket_verdict, ticket_answer, step, started, ticket_after, commit_ticket, end_ticket, acquired, acquire_of, offered, offer_in, deliver}
-use Rattle.world_core.specs.Laws.{IsNode, AllGoOn, May, MayHappen, IsHonest, IsRun, Leads, AreRising}
+use Rattle.world_core.specs.World.{World, Ticket, Session, Offered, Outcome, Call, CallBegin, CallCommit, CallEnd, CallAcquire, CallRelease, CallApply, Happens, Calls, called, node_of, with_node, node_in, is_node, new_world, ticket_in, with_ticket, new_ticket, session_in, update_in, ticket_verdict, ticket_answer, step, started, ticket_after, commit_ticket, end_ticket, acquired, acquire_of, offered, offer_in, deliver}
+use Rattle.world_core.specs.Laws.{IsNode, AllGoOn, May, MayHappen, IsHonest, AreRising}
 use Rattle.world_core.specs.Taken.{AreTaken, IsKept}
 use Rattle.world_core.proofs.Honest.{node_of-here}
 use Rattle.world_core.proofs.Events.{after-advances, if_cases, ticket-Contains}

@@ -1,5 +1,5 @@
 -- What a world keeps, which deeds are allowed, which runs are honest, and the laws over every run.
-use Rattle.std.specs.Prelude.{◌≡◌, ◌≢◌, ℕ, ◌<◌, ◌≤◌, ◌↔◌, true, false, Option, List, [], ◌∷◌, ◌++◌, Contains, None, IfSome, IsSome, length}
+use Rattle.std.specs.Prelude.{◌≡◌, ◌≢◌, ℕ, ◌<◌, ◌≤◌, ◌↔◌, true, false, List, [], ◌∷◌, ◌++◌, Contains, None, IfSome, IsSome, length}
 use Rattle.repl_data.specs.declared.csn.Csn.{Csn}
 use Rattle.repl_data.specs.declared.change.Change.{Change}
 use Rattle.repl_data.specs.declared.change.Suffix.{Suffix}
@@ -7,11 +7,8 @@ use Rattle.repl_data.specs.declared.change.Update.{Update}
 use Rattle.repl_data.specs.Order.{number_of}
 use Rattle.repl_data.specs.Closed.{IsClosed}
 use Rattle.repl_data.specs.View.{view_of}
-use Rattle.repl_data.specs.declared.csn.Uid.{Uid}
-use Rattle.repl_data.specs.declared.change.Body.{Body}
 use Rattle.ldap_types.specs.declared.request.Request.{Request}
 use Rattle.ldap_types.specs.declared.reply.Identity.{Identity}
-use Rattle.ldap_rules.specs.Verdict.{Writes}
 use Rattle.change_log.specs.Log.{prev_in}
 use Rattle.node_core.specs.Node.{Node, front, vector_of}
 use Rattle.node_core.specs.Steps.{Judge, form_fault}

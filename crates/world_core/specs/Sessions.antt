@@ -18,10 +18,10 @@ use Rattle.world_core.specs.Laws.{IsNode, IsRun, IsHonestRun, IsSoundJudge, Lead
 abbrev pub IsFollowed : Node → List Csn → Type 0
 IsFollowed consumer cursor = (o : ℕ) → number_of (entry_of cursor o) ≤ number_of (front consumer o)
 
--- an answer that does not say that the consumer lacks something
+-- an answer that does not say that the consumer lacks something (no step of a node answers want of memory)
 abbrev pub IsWelcome : Result Applied ApplyFault → Type 0
 IsWelcome (Ok applied) = Unit {0}
-IsWelcome (Err apply.NoMemory) = Unit {0}
+IsWelcome (Err apply.NoMemory) = ⊥
 IsWelcome (Err apply.NotHolder) = Unit {0}
 IsWelcome (Err (apply.Malformed why)) = ⊥
 IsWelcome (Err (apply.OwnUnknown csn)) = ⊥

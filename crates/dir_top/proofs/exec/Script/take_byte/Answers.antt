@@ -11,7 +11,7 @@ returns-then-byte-eq10-clause-run g c = λ whole rest old reads.
     (c.end_line.ensures.run whole (c.args.self.now.line ++ 10 ∷ []) (lines_of rest) old (before_feed-ended c.args.self.now.line reads.part) (content_of-ended c.args.self.now.line reads.part) (ends_line whole rest c.args.self.now old _ ended))
     c.end_line.ensures.emptied
 
-pub returns-then-len-eq4194400-clause-run : goal.returns-then-len-eq4194400-clause-run
-returns-then-len-eq4194400-clause-run g c = λ whole rest old reads.
-    let found = grows_too_long whole c.args.byte rest c.args.self.now old _ c.if-byte-eq10.false (sym c.len.ensures ∙ c.if-len-eq4194400.true) reads in
+pub returns-then-len-eq-LENGTH_LIMIT-clause-run : goal.returns-then-len-eq-LENGTH_LIMIT-clause-run
+returns-then-len-eq-LENGTH_LIMIT-clause-run g c = λ whole rest old reads.
+    let found = grows_too_long whole c.args.byte rest c.args.self.now old _ c.if-byte-eq10.false (sym c.len.ensures ∙ c.if-len-eq-LENGTH_LIMIT.true) reads in
     c.long_line.ensures.run whole found.0 found.1 old _ found.3 found.2

@@ -1,13 +1,13 @@
 use Rattle.std.proofs.Common.{◌≡◌, ◌≢◌, sym, ap, subst}
 use Rattle.node_core.specs.Steps.{ended}
-use Rattle.node_core.specs.Calls.{IsCall, AreSame, IsTaken, IsPending, IsPendingTaken}
+use Rattle.node_core.specs.Calls.{IsCall, AreSame, IsTaken}
 use Rattle.world_core.specs.Laws.{IsNode}
 use Rattle.world_core.specs.At.{At, reached, at_reach, IsOpenAt, IsCommittedAt}
 use Rattle.world_core.specs.State.{world_of}
-use Rattle.world_core.specs.World.{World, node_of}
+use Rattle.world_core.specs.World.{node_of}
 use Rattle.world_core.proofs.Honest.{with-IsNode}
 use Rattle.world_core.proofs.CallsKept.{end-kept_at, put-there}
-use Rattle.world_core.proofs.AtCalls.{IsGiven, beside-of, others-of, call-of, given-usable, committed-here, committed-free_at, ended-open_at, ended-committed_at, ended-stale_at, aborted-committed_at}
+use Rattle.world_core.proofs.AtCalls.{IsGiven, beside-of, others-of, call-of, given-usable, ended-open_at, ended-stale_at, aborted-committed_at}
 use Rattle.world_core.proofs.at.AtNodeNodeCalls.abort.Goals as goal
 
 -- the ticket is one that may be used

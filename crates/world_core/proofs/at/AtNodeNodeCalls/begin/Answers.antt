@@ -5,7 +5,7 @@ use Rattle.node_core.specs.Calls.{IsCall, AreSame, IsAdded}
 use Rattle.world_core.specs.Laws.{IsNode}
 use Rattle.world_core.specs.At.{At, at_reach, IsOpenAt, IsCommittedAt}
 use Rattle.world_core.specs.State.{world_of}
-use Rattle.world_core.specs.World.{World, node_of}
+use Rattle.world_core.specs.World.{node_of}
 use Rattle.world_core.proofs.Honest.{with-IsNode}
 use Rattle.world_core.proofs.CallsKept.{begin-kept}
 use Rattle.world_core.proofs.AtCalls.{beside-of, call-of, begin-open_at, begin-committed_at, begin-fresh_at}

@@ -8,7 +8,7 @@ use Rattle.node_core.specs.Calls.{IsCall, AreSame, IsAdded, IsMoved, Commits, cs
 use Rattle.world_core.specs.Laws.{IsNode}
 use Rattle.world_core.specs.At.{At, reached, at_reach, IsOpenAt, IsCommittedAt}
 use Rattle.world_core.specs.State.{world_of}
-use Rattle.world_core.specs.World.{World, node_of}
+use Rattle.world_core.specs.World.{node_of}
 use Rattle.world_core.proofs.Honest.{with-IsNode}
 use Rattle.world_core.proofs.CallsKept.{commit-kept}
 use Rattle.world_core.proofs.AtCalls.{IsGiven, beside-of, call-of, given-usable, commit-open_at, commit-committed_at, commit-uncommitted_at}

@@ -4,7 +4,7 @@ use Rattle.node_core.specs.Calls.{IsCall, AreSame}
 use Rattle.world_core.specs.Laws.{IsNode}
 use Rattle.world_core.specs.At.{At, reached, at_reach, IsOpenAt, IsCommittedAt}
 use Rattle.world_core.specs.State.{world_of}
-use Rattle.world_core.specs.World.{World, node_of}
+use Rattle.world_core.specs.World.{node_of}
 use Rattle.world_core.proofs.Honest.{with-IsNode}
 use Rattle.world_core.proofs.CallsKept.{release-kept, put-there}
 use Rattle.world_core.proofs.AtCalls.{beside-of, others-of, call-of, idle-same, release-idle}

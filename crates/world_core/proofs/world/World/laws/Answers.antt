@@ -1,7 +1,5 @@
 use Rattle.std.proofs.Common.{subst}
-use Rattle.world_core.specs.World.{World}
 use Rattle.world_core.specs.Taken.{IsKept}
-use Rattle.world_core.specs.State.{world_of}
 use Rattle.world_core.proofs.OneWorld.{closed_in, formed_in, honest_in, views_in}
 use Rattle.world_core.proofs.Runs.{own_entries, agree}
 use Rattle.world_core.proofs.Later.{offers_welcome, offers_taken}

@@ -1,0 +1,12 @@
+pub mod Members
+pub mod Rising
+pub mod Lineage
+pub mod Within
+pub mod Keys
+pub mod Orders
+pub mod Children
+pub mod Subtrees
+pub mod Levels
+pub mod Closed
+pub mod Steps
+pub mod Stacks
