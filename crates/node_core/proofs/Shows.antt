@@ -1,5 +1,5 @@
 -- The tree of a log, and of one change more.
-use Rattle.std.proofs.Common.{◌≡◌, Bool, true, List, [], ◌∷◌, ◌++◌, refl, sym, ap, subst, ◌∙◌}
+use Rattle.std.proofs.Common.{◌≡◌, ℕ, Bool, true, List, [], ◌∷◌, ◌++◌, refl, sym, ap, subst, ◌∙◌}
 use Rattle.std.specs.Prelude.{IsTrue}
 use Rattle.std.specs.List.{list_all, AllByRecursion}
 use Rattle.repl_data.specs.declared.csn.Uid.{Uid}
@@ -35,19 +35,15 @@ arrived-sound xs c a = last xs a.sound
 pub shown-facts : (suffix : Suffix) (taken : List Change) (tree : Known) (u : Uid) (b : Bool) → IsShown suffix taken tree → is_among_entries (all_facts suffix taken) u ≡ b → is_among_entries tree.facts u ≡ b
 shown-facts suffix taken tree u b s h = ap (λ es. is_among_entries es u) s.facts ∙ h
 
--- a tree that is ready for a plan still shows the same
-pub shown-planned : (suffix : Suffix) (taken : List Change) (old mid : Known) → mid.suffix ≡ old.suffix → mid.facts ≡ old.facts → IsShown suffix taken old → IsShown suffix taken mid
-shown-planned suffix taken old mid named facts s = record { named = named ∙ s.named; facts = facts ∙ s.facts; within = s.within }
-
 -- what holds of one change after the other follows from what `tree_laws` says
 abbrev pub GoesOn : Type 0
 GoesOn = (s : Suffix) (xs : List Change) (d : Change) → IsArrival (xs ++ d ∷ []) → facts_with s d (all_facts s xs) ≡ all_facts s (xs ++ d ∷ [])
 
 -- once the plan is installed the tree shows one change more
-pub shown-next : (suffix : Suffix) (taken : List Change) (c : Change) (plan : EntryFacts) (old mid new : Known) → GoesOn → IsArrival (taken ++ c ∷ []) → IsInRange c.csn → IsShown suffix taken old → mid.suffix ≡ old.suffix → mid.facts ≡ old.facts → plan ≡ entry_after suffix c old.facts → new.suffix ≡ mid.suffix → new.facts ≡ put_fact plan mid.facts → IsShown suffix (taken ++ c ∷ []) new
-shown-next suffix taken c plan old mid new next a range s mid_named mid_facts entry named facts = record {
-  named = named ∙ mid_named ∙ s.named;
-  facts = facts ∙ (λ i. put_fact (entry i) (mid_facts i)) ∙ ap (facts_with suffix c) s.facts ∙ next suffix taken c a;
+pub shown-next : (suffix : Suffix) (taken : List Change) (c : Change) (plan : EntryFacts) (old new : Known) (ready_suffix : List ℕ) (ready_facts : List EntryFacts) → GoesOn → IsArrival (taken ++ c ∷ []) → IsInRange c.csn → IsShown suffix taken old → ready_suffix ≡ old.suffix → ready_facts ≡ old.facts → plan ≡ entry_after suffix c old.facts → new.suffix ≡ ready_suffix → new.facts ≡ put_fact plan ready_facts → IsShown suffix (taken ++ c ∷ []) new
+shown-next suffix taken c plan old new ready_suffix ready_facts next a range s kept_named kept_facts entry named facts = record {
+  named = named ∙ kept_named ∙ s.named;
+  facts = facts ∙ (λ i. put_fact (entry i) (kept_facts i)) ∙ ap (facts_with suffix c) s.facts ∙ next suffix taken c a;
   within = all_push taken s.within;
 }
   where

@@ -6,4 +6,4 @@ use Rattle.node_core.proofs.Shows.{shown-known}
 use Rattle.node_core.proofs.node.NodeState.is_known.Goals as goal
 
 pub returns : goal.returns
-returns c = subst (λ (n : Node). is_among_entries c.self.inside.view.facts c.args.id ≡ is_known n.taken c.args.id) c.self.view_is (shown-known _ _ _ c.args.id c.self.invariant.1)
+returns c = c.is_known.ensures ∙ subst (λ (n : Node). is_among_entries c.self.inside.view.facts c.args.id ≡ is_known n.taken c.args.id) c.self.view_is (shown-known _ _ _ c.args.id c.self.invariant.1)
