@@ -44,7 +44,7 @@ find_step : (name : List ℕ) (a : Attr) (attrs : List Attr) (t : Bool) → byte
 find_step name a attrs t e = ap (λ b. cond b (Some a) (found name attrs)) e
 
 -- two names that are not equal are not both this one
-apart : (name x y : List ℕ) → bytes_cmp x y ≡ Greater → bytes_eq name x ≡ true → bytes_eq name y ≡ true → ⊥
+pub apart : (name x y : List ℕ) → bytes_cmp x y ≡ Greater → bytes_eq name x ≡ true → bytes_eq name y ≡ true → ⊥
 apart name x y e h g =
     not_both (bytes_eq x y) (equal_key x y (sym (is_same name x h) ∙ is_same name y g)) (ap is_eq e)
 
