@@ -1,5 +1,5 @@
 -- What is written has the effect of the modifications.
-use Rattle.std.proofs.Common.{◌≡◌, ℕ, Bool, true, false, cond, ◌||◌, List, [], ◌∷◌, refl, sym, ap, subst, ◌∙◌}
+use Rattle.std.proofs.Common.{◌≡◌, ℕ, Bool, true, false, cond, ◌||◌, List, [], ◌∷◌, refl, sym, ap, ◌∙◌}
 use Rattle.std.specs.Prelude.{fold}
 use Rattle.std.specs.List.{list_any}
 use Rattle.repl_data.specs.declared.change.AttrKey.{AttrKey}
@@ -8,11 +8,10 @@ use Rattle.repl_data.specs.declared.change.Mod.{Mod}
 use Rattle.repl_data.specs.Order.{bytes_eq}
 use Rattle.repl_data.specs.Plain.{values_after}
 use Rattle.repl_data.proofs.KeyPlaces.{is_same}
-use Rattle.repl_data.proofs.Sound.{not_both, neither}
+use Rattle.repl_data.proofs.Sound.{neither}
 use Rattle.attr_keys.specs.Table.{is_single}
 use Rattle.rule_values.specs.Modify.{after}
 use Rattle.rule_values.specs.Written.{Values, is_modified, replaced, write_before, written}
-use Rattle.rule_values.proofs.Places.{equal_key}
 use Rattle.rule_values.proofs.SetLemmas.{same_turned}
 
 -- one modification, looked at from one attribute

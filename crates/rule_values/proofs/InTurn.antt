@@ -1,6 +1,6 @@
 -- Values and attributes, one after the other.
 use Rattle.std.proofs.Common.{◌≡◌, ℕ, ◌+◌, ◌<◌, ◌≤◌, List, length, get_or, drop, Result, Ok, sym, ap, subst, ◌∙◌}
-use Rattle.std.specs.Prelude.{fold, cond, Bool, true, false, Some}
+use Rattle.std.specs.Prelude.{fold, cond, Bool, false, Some}
 use Rattle.std.proofs.lemmas.List.{at_drop_more, at_drop_all}
 use Rattle.repl_data.specs.declared.change.AttrKey.{AttrKey}
 use Rattle.repl_data.specs.declared.change.Val.{Val}

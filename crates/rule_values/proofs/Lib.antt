@@ -4,3 +4,4 @@ pub mod InTurn
 pub mod SetLemmas
 pub mod ModSteps
 pub mod Effect
+pub mod PlainEffect

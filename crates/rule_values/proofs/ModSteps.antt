@@ -1,8 +1,8 @@
 -- What modifications do to what an entry has, step by step.
-use Rattle.std.proofs.Common.{◌≡◌, ℕ, ◌+◌, ◌<◌, ◌≤◌, Bool, true, false, cond, not, ◌||◌, ◌&&◌, List, [], ◌∷◌, ◌++◌, length, get_or, drop, refl, sym, ap, subst, ◌∙◌, Option, Some, None, Result, Ok, Err, nat_lt}
+use Rattle.std.proofs.Common.{◌≡◌, ℕ, ◌+◌, ◌<◌, ◌≤◌, Bool, true, false, cond, not, ◌||◌, List, [], ◌∷◌, ◌++◌, length, get_or, drop, refl, sym, ap, subst, ◌∙◌, Option, Some, None, Result, Ok, Err, nat_lt}
 use Rattle.std.specs.Prelude.{filter, find, fold, flat_map, is_some}
 use Rattle.std.specs.Option.{option_map_or}
-use Rattle.std.specs.List.{AllByRecursion, list_any, list_all}
+use Rattle.std.specs.List.{AllByRecursion, list_any}
 use Rattle.std.specs.declared.cmp.Ordering.{Ordering}
 use Rattle.std.specs.declared.cmp.Ordering.TheVariants.{Less, Equal, Greater}
 use Rattle.std.specs.Ordering.{is_eq}
@@ -16,7 +16,7 @@ use Rattle.repl_data.specs.declared.change.Rdn.{Rdn}
 use Rattle.repl_data.specs.declared.change.Shown.{Shown}
 use Rattle.repl_data.specs.declared.change.ModKind.TheVariants.{Delete}
 use Rattle.repl_data.specs.Check.{is_empty}
-use Rattle.repl_data.specs.Order.{bytes_cmp, bytes_eq, by_order, foldr}
+use Rattle.repl_data.specs.Order.{bytes_cmp, bytes_eq, by_order}
 use Rattle.repl_data.specs.Ordered.{Rises}
 use Rattle.repl_data.specs.Plain.{add_values, without_values, values_after}
 use Rattle.repl_data.specs.View.{put_attr, vals_at}
@@ -44,7 +44,7 @@ find_step : (name : List ℕ) (a : Attr) (attrs : List Attr) (t : Bool) → byte
 find_step name a attrs t e = ap (λ b. cond b (Some a) (found name attrs)) e
 
 -- two names that are not equal are not both this one
-apart : (name x y : List ℕ) → bytes_cmp x y ≡ Greater → bytes_eq name x ≡ true → bytes_eq name y ≡ true → ⊥
+pub apart : (name x y : List ℕ) → bytes_cmp x y ≡ Greater → bytes_eq name x ≡ true → bytes_eq name y ≡ true → ⊥
 apart name x y e h g =
     not_both (bytes_eq x y) (equal_key x y (sym (is_same name x h) ∙ is_same name y g)) (ap is_eq e)
 

@@ -1,5 +1,5 @@
 -- A MODIFY (RFC 4511, section 4.6): its modifications, each on the entry as the earlier ones left it.
-use Rattle.std.specs.Prelude.{ℕ, ℤ, pos, Bool, not, ◌&&◌, nat_lt, List, [], ◌∷◌, flat_map, fold, length, codes, Result, Ok, Err, if◌then◌else◌}
+use Rattle.std.specs.Prelude.{ℤ, pos, Bool, not, ◌&&◌, nat_lt, List, [], ◌∷◌, flat_map, fold, length, codes, Result, Ok, Err, if◌then◌else◌}
 use Rattle.std.specs.Ordering.{int_eq}
 use Rattle.std.specs.List.{list_any, list_all}
 use Rattle.repl_data.specs.declared.change.Val.{Val}

@@ -20,6 +20,6 @@ mod written;
 
 pub use attributes::entry_attributes;
 pub use fault::{Refusal, ValueFault};
-pub use laws::written_laws;
+pub use laws::modify_laws;
 pub use modify::modifications;
 pub use reading::{read_name, read_value};
