@@ -1,0 +1,4 @@
+pub mod Meaning
+pub mod Sessions
+pub mod Told
+pub mod Starving

@@ -1,0 +1,6 @@
+pub mod Calls
+pub mod Messages
+pub mod Answers
+pub mod Supplier
+pub mod Consumer
+pub mod Laws
