@@ -1,20 +1,19 @@
 -- What a reply means, by the message that has no answer yet.
-use Rattle.std.proofs.Common.{◌≡◌, ◌≢◌, ◌⊎◌, ℕ, ◌==◌, Bool, true, false, List, Option, Some, None, Result, Ok, Err, refl, sym, ap, subst, ◌∙◌, inl, inr, eqb-true, if◌then◌else◌}
+use Rattle.std.proofs.Common.{◌≡◌, ℕ, ◌==◌, Bool, true, false, List, Option, Some, None, Result, Ok, Err, refl, sym, ap, ◌∙◌, inl, inr, eqb-true, if◌then◌else◌}
 use Rattle.repl_data.specs.declared.csn.Csn.{Csn}
 use Rattle.ldap_types.specs.declared.reply.Reply.{Reply}
 use Rattle.ldap_types.specs.declared.reply.LdapResult.{LdapResult}
 use Rattle.repl_wire.specs.declared.fault.WireFault.{WireFault}
 use Rattle.repl_wire.specs.Reading.{started_of}
-use Rattle.replica_session.specs.declared.supplier.SessionEnd.{SessionEnd}
-use Rattle.replica_session.specs.declared.supplier.SessionEnd.TheVariants.{Done, Refused, Strange}
+use Rattle.replica_session.specs.declared.supplier.SessionEnd.TheVariants.{Refused}
 use Rattle.replica_session.specs.declared.supplier.Kind.{Kind}
 use Rattle.replica_session.specs.declared.supplier.Awaited.{Awaited}
 use Rattle.replica_session.specs.declared.supplier.Awaited.TheVariants as awaited
 use Rattle.replica_session.specs.declared.supplier.Heard.{Heard}
 use Rattle.replica_session.specs.declared.supplier.Heard.TheVariants.{Over, Bound, Started, Taken}
 use Rattle.replica_session.specs.Messages.{next_id}
-use Rattle.replica_session.specs.Supplier.{fitting, accepted, started_with, started_heard, heard_with, heard}
-use Rattle.replica_session.specs.Laws.{IsAccepted, IsRefused, EndsSo}
+use Rattle.replica_session.specs.Supplier.{fitting, accepted, started_with, heard_with, heard}
+use Rattle.replica_session.specs.Laws.{IsAccepted, EndsSo}
 
 abbrev pub Means : Awaited → ℕ → Reply → Heard → Type 0
 Means w n r (Over end) = EndsSo w n r end

@@ -1,5 +1,5 @@
 -- How a session goes on.
-use Rattle.std.proofs.Common.{◌≡◌, ◌≢◌, ◌⊎◌, ◌≤◌, ℕ, ◌+◌, ◌-◌, ◌^◌, min, ◌==◌, nat_lt, Bool, true, false, List, [], ◌∷◌, ◌++◌, length, Option, Some, None, Result, Ok, Err, refl, sym, ap, ap₂, subst, ◌∙◌, inl, inr, arith, length-append, if◌then◌else◌, ltb-true, ltb-false}
+use Rattle.std.proofs.Common.{◌≡◌, ◌≤◌, ℕ, ◌+◌, ◌-◌, nat_lt, Bool, true, false, List, [], ◌∷◌, ◌++◌, length, Ok, refl, sym, ap, ap₂, subst, ◌∙◌, arith, length-append, if◌then◌else◌, ltb-true}
 use Rattle.repl_data.specs.declared.csn.Csn.{Csn}
 use Rattle.repl_data.specs.declared.change.Update.{Update}
 use Rattle.ldap_types.specs.declared.reply.Reply.{Reply}
@@ -19,7 +19,7 @@ use Rattle.replica_session.specs.declared.supplier.Heard.TheVariants.{Over, Boun
 use Rattle.replica_session.specs.declared.supplier.Supplier.{Supplier}
 use Rattle.replica_session.specs.Calls.{Supplying}
 use Rattle.replica_session.specs.Messages.{next_id}
-use Rattle.replica_session.specs.Supplier.{message, IsPast, IsNext, SendsStart, SendsNext, HearsSo, heard, begun, one_more}
+use Rattle.replica_session.specs.Supplier.{message, IsPast, IsNext, SendsStart, SendsNext, HearsSo, heard, one_more}
 use Rattle.replica_session.specs.Laws.{Talks, IsAccepted, start_message, AreTaken, Stands, EverySessionStands, EndsSo, EverySessionEnds, CountsTaken, NumbersAreWithin}
 use Rattle.replica_session.proofs.Meaning.{Means, means}
 

@@ -1,12 +1,10 @@
 -- The bind as a request, and answers with 0.
-use Rattle.std.proofs.Common.{◌≡◌, ◌≢◌, ◌≤◌, ◌<◌, ◌^◌, ℕ, pos, List, [], ◌++◌, length, codes, Option, Some, None, Result, Ok, Err, refl, sym, ap, ◌∙◌, arith, append-nil, append_assoc, length-append}
+use Rattle.std.proofs.Common.{◌≡◌, ◌≤◌, ◌<◌, ◌^◌, ℕ, pos, [], ◌++◌, length, codes, Option, Some, None, Ok, Err, refl, sym, ap, ◌∙◌, arith, append-nil, append_assoc, length-append}
 use Rattle.ldap_types.specs.declared.reply.LdapResult.{LdapResult}
-use Rattle.vector_core.specs.declared.answers.Applied.{Applied}
 use Rattle.vector_core.specs.declared.answers.ApplyFault.{ApplyFault}
 use Rattle.vector_core.specs.declared.answers.ApplyFault.TheVariants as apply
 use Rattle.vector_core.specs.declared.answers.AcquireFault.{AcquireFault}
 use Rattle.vector_core.specs.declared.answers.AcquireFault.TheVariants as acquire
-use Rattle.ldap_requests.specs.Grammar.{request_at}
 use Rattle.ldap_requests.specs.Spelling.{MessageId, IsOp, IsControl, Spells}
 use Rattle.ldap_requests.proofs.CompleteMessage.{spelled_is_read}
 use Rattle.ber_core.specs.Element.{element}
@@ -18,7 +16,7 @@ use Rattle.repl_wire.proofs.Back.{written, integer_is, integer_small}
 use Rattle.repl_wire.proofs.Requests.{nothing_unknown, left_out}
 use Rattle.repl_wire.proofs.Sizes.{element_short, integer_short}
 use Rattle.replica_session.specs.Messages.{supplier_name, supplier_password, bind_parts, bind_bytes, bind_request}
-use Rattle.replica_session.specs.Answers.{apply_result, acquire_result, unreadable, malformed, not_holder, wrong_suffix, same_id}
+use Rattle.replica_session.specs.Answers.{apply_result, acquire_result, malformed, not_holder, wrong_suffix, same_id}
 use Rattle.replica_session.specs.Laws.{BindIsRead, ZeroIsTaken, RefusalIsTold}
 
 -- how many bytes there are at most

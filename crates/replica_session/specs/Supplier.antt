@@ -1,5 +1,5 @@
 -- The supplier's side of a session: what a reply means, and what is done when it is heard.
-use Rattle.std.specs.Prelude.{◌≡◌, ◌⊎◌, ℕ, ◌+◌, ◌-◌, ◌^◌, ◌==◌, min, List, [], Option, Some, None, Result, Ok, Err, if◌then◌else◌}
+use Rattle.std.specs.Prelude.{◌≡◌, ◌⊎◌, ℕ, ◌+◌, ◌-◌, ◌^◌, ◌==◌, min, List, Option, Some, None, Result, Ok, Err, if◌then◌else◌}
 use Rattle.repl_data.specs.declared.csn.Csn.{Csn}
 use Rattle.repl_data.specs.declared.change.Body.{Body}
 use Rattle.repl_data.specs.declared.change.Body.TheVariants as body
@@ -15,7 +15,6 @@ use Rattle.repl_wire.specs.declared.fault.WireFault.{WireFault}
 use Rattle.repl_wire.specs.Form.{start_bytes, end_bytes}
 use Rattle.repl_wire.specs.UpdateForm.{update_bytes}
 use Rattle.repl_wire.specs.Reading.{started_of}
-use Rattle.replica_session.specs.declared.supplier.SessionEnd.{SessionEnd}
 use Rattle.replica_session.specs.declared.supplier.SessionEnd.TheVariants.{Done, Refused, Strange}
 use Rattle.replica_session.specs.declared.supplier.SupplyStep.{SupplyStep}
 use Rattle.replica_session.specs.declared.supplier.SupplyStep.TheVariants.{Send, Ended}

@@ -34,6 +34,19 @@ fn written(alloc: Global, reply: &Reply) -> Result<Bytes, CaseFault> {
     Ok(bytes)
 }
 
+/// The bytes of what the consumer answers to the bytes of the next word.
+fn heard(
+    alloc: Global,
+    consumer: &mut Consumer,
+    node: &mut Told,
+    fields: &mut Fields<'_>,
+) -> Result<Bytes, CaseFault> {
+    let bytes = fields.bytes(alloc)?;
+    let message = request(alloc, bytes.as_slice())?;
+    let reply = or_memory(consumer.hear(alloc, node, &message, NOW))?;
+    written(alloc, &reply)
+}
+
 /// What the consumer answers to the first bytes: `as wanted` where it is the second ones, or else its bytes.
 pub fn hear(
     alloc: Global,
@@ -42,10 +55,8 @@ pub fn hear(
     fields: &mut Fields<'_>,
     told: &mut String,
 ) -> Result<(), CaseFault> {
-    let request = request(alloc, fields.bytes(alloc)?.as_slice())?;
+    let bytes = heard(alloc, consumer, node, fields)?;
     let wanted = fields.bytes(alloc)?;
-    let reply = or_memory(consumer.hear(alloc, node, &request, NOW))?;
-    let bytes = written(alloc, &reply)?;
     if bytes.as_slice() == wanted.as_slice() {
         told.push_str("as wanted")?;
         return Ok(());

@@ -41,7 +41,7 @@ fn plain(alloc: Global, number: u32) -> LdapResult {
     }
 }
 
-fn altered(alloc: Global, altered: Altered, reply: Reply) -> Reply {
+fn alter(alloc: Global, altered: Altered, reply: Reply) -> Reply {
     let Reply { id, op } = reply;
     match altered {
         Altered::Nothing => Reply { id, op },
@@ -127,7 +127,7 @@ fn update_answer(fields: &mut Fields<'_>) -> Result<Result<Applied, ApplyFault>,
 }
 
 /// How a reply is altered.
-fn alteration(fields: &mut Fields<'_>) -> Result<Altered, CaseFault> {
+fn next_altered(fields: &mut Fields<'_>) -> Result<Altered, CaseFault> {
     match fields.word()? {
         "id" => Ok(Altered::Id),
         "kind" => Ok(Altered::Kind),
@@ -163,7 +163,7 @@ fn exception(node: &mut Told, fields: &mut Fields<'_>) -> Result<Alteration, Cas
         }
         "message" => {
             alters.message = fields.number()?;
-            alters.altered = alteration(fields)?;
+            alters.altered = next_altered(fields)?;
         }
         _ => return Err(CaseFault::Argument),
     }
@@ -222,6 +222,28 @@ pub fn answer(alloc: Global, fields: &mut Fields<'_>, told: &mut String) -> Resu
     node.tell_holder(told)
 }
 
+/// The answer with 0 to the supplier's bind.
+fn bound(alloc: Global, supplier: &mut Supplier) -> Result<Reply, CaseFault> {
+    let bytes = or_memory(supplier.first(alloc))?;
+    let bind = request(alloc, bytes.as_slice())?;
+    Ok(Reply {
+        id: bind.id,
+        op: ReplyOp::Bind(plain(alloc, 0)),
+    })
+}
+
+/// What the consumer answers to the message of these bytes.
+fn answered(
+    alloc: Global,
+    consumer: &mut Consumer,
+    node: &mut Told,
+    bytes: &[u8],
+) -> Result<Reply, CaseFault> {
+    let message = request(alloc, bytes)?;
+    let answer = or_memory(consumer.hear(alloc, node, &message, NOW))?;
+    over_bytes(alloc, &answer)
+}
+
 /// The end, and how many messages the supplier sent.
 fn run(
     alloc: Global,
@@ -231,21 +253,15 @@ fn run(
     node: &mut Told,
     alters: Alteration,
 ) -> Result<(SessionEnd, u64), CaseFault> {
-    let bind = request(alloc, or_memory(supplier.first(alloc))?.as_slice())?;
-    let mut reply = Reply {
-        id: bind.id,
-        op: ReplyOp::Bind(plain(alloc, 0)),
-    };
+    let mut reply = bound(alloc, supplier)?;
     for messages in 1..u64::MAX {
         if messages == alters.message {
-            reply = altered(alloc, alters.altered, reply);
+            reply = alter(alloc, alters.altered, reply);
         }
         match or_memory(supplier.hear(alloc, supply, &reply))? {
             SupplyStep::Ended(end) => return Ok((end, messages)),
             SupplyStep::Send(bytes) => {
-                let request = request(alloc, bytes.as_slice())?;
-                let answer = or_memory(consumer.hear(alloc, node, &request, NOW))?;
-                reply = over_bytes(alloc, &answer)?;
+                reply = answered(alloc, consumer, node, bytes.as_slice())?;
             }
         }
     }

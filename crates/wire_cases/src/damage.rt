@@ -19,7 +19,7 @@ enum Outcome {
     More,
 }
 
-fn outcome(alloc: Global, bytes: &[u8]) -> Result<Outcome, CaseFault> {
+fn comes_of(alloc: Global, bytes: &[u8]) -> Result<Outcome, CaseFault> {
     let request = match read_request(alloc, bytes) {
         Ok((request, _size)) => request,
         Err(ReadFault::NoMemory) => return Err(CaseFault::NoMemory),
@@ -69,7 +69,7 @@ fn damage_at(
             if let Some(slot) = bytes.get_mut(place) {
                 *slot = byte;
             }
-            counts.add(outcome(alloc, bytes.as_slice())?);
+            counts.add(comes_of(alloc, bytes.as_slice())?);
         }
     }
     if let Some(slot) = bytes.get_mut(place) {
