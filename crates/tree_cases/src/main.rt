@@ -4,6 +4,7 @@
 
 mod arrivals;
 mod chains;
+mod effects;
 mod generated;
 mod grown;
 mod names;
@@ -44,6 +45,7 @@ impl Subjects for Trees {
             }
             "change" => self.taken.take(alloc, fields, told),
             "arrivals" => arrivals::answer(alloc, &self.suffix, &self.taken, fields, told),
+            "effect" => effects::answer(alloc, &self.suffix, &self.taken, fields, told),
             "generated" => generated::answer(alloc, &self.suffix, fields, told),
             "chain" => chains::answer(alloc, &self.suffix, fields, told),
             _ => names::answer(&mut self.who, subject, fields, told),
