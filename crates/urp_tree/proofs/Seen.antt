@@ -34,7 +34,7 @@ at_id u es = find (λ (e : EntryFacts). uid_eq e.id u) es
 abbrev pub IsOnly : Uid → EntryFacts → List EntryFacts → Type 0
 IsOnly u f es = AllByRecursion (λ (e : EntryFacts). uid_eq e.id u ≡ true → e ≡ f) es
 
-found_only : (u : Uid) (f : EntryFacts) (es : List EntryFacts) → IsOnly u f es → is_among_entries es u ≡ true → at_id u es ≡ Some f
+pub found_only : (u : Uid) (f : EntryFacts) (es : List EntryFacts) → IsOnly u f es → is_among_entries es u ≡ true → at_id u es ≡ Some f
 found_only u f [] a h = let e : false ≡ true = h in cc
 found_only u f (d ∷ es) a h = by (uid_eq d.id u) a.0 h (found_only u f es a.1)
   where
@@ -42,7 +42,7 @@ found_only u f (d ∷ es) a h = by (uid_eq d.id u) a.0 h (found_only u f es a.1)
     by true own k more = ap Some (own refl)
     by false own k more = more k
 
-found_none : (u : Uid) (es : List EntryFacts) → is_among_entries es u ≡ false → at_id u es ≡ None
+pub found_none : (u : Uid) (es : List EntryFacts) → is_among_entries es u ≡ false → at_id u es ≡ None
 found_none u [] h = refl
 found_none u (d ∷ es) h = by (uid_eq d.id u) h (found_none u es)
   where
@@ -50,7 +50,7 @@ found_none u (d ∷ es) h = by (uid_eq d.id u) h (found_none u es)
     by true k more = let f : true ≡ false = k in cc
     by false k more = more k
 
-find_map : {X Y : Type 0} (p : Y → Bool) (F : X → Y) (xs : List X) → find p (map F xs) ≡ option_map F (find (λ x. p (F x)) xs)
+pub find_map : {X Y : Type 0} (p : Y → Bool) (F : X → Y) (xs : List X) → find p (map F xs) ≡ option_map F (find (λ x. p (F x)) xs)
 find_map p F [] = refl
 find_map p F (x ∷ xs) = by (p (F x)) (find_map p F xs)
   where
@@ -59,7 +59,7 @@ find_map p F (x ∷ xs) = by (p (F x)) (find_map p F xs)
     by false h = h
 
 -- of those that are chosen
-only_filter : (p : EntryFacts → Bool) (u : Uid) (f : EntryFacts) (es : List EntryFacts) → IsOnly u f es → IsOnly u f (filter p es)
+pub only_filter : (p : EntryFacts → Bool) (u : Uid) (f : EntryFacts) (es : List EntryFacts) → IsOnly u f es → IsOnly u f (filter p es)
 only_filter p u f [] a = tt
 only_filter p u f (d ∷ es) a = by (p d) (only_filter p u f es a.1)
   where
@@ -80,7 +80,7 @@ chosen p u f (d ∷ es) (inr h) own t = by (p d) (chosen p u f es h.1 own t)
     by true more = among_later (uid_eq d.id u) (is_among_entries (filter p es) u) more
     by false more = more
 
-not_chosen : (p : EntryFacts → Bool) (u : Uid) (f : EntryFacts) (es : List EntryFacts) → IsOnly u f es → p f ≡ false → is_among_entries (filter p es) u ≡ false
+pub not_chosen : (p : EntryFacts → Bool) (u : Uid) (f : EntryFacts) (es : List EntryFacts) → IsOnly u f es → p f ≡ false → is_among_entries (filter p es) u ≡ false
 not_chosen p u f [] a h = refl
 not_chosen p u f (d ∷ es) a h = by (p d) (uid_eq d.id u) refl refl (not_chosen p u f es a.1 h)
   where
@@ -89,7 +89,7 @@ not_chosen p u f (d ∷ es) a h = by (p d) (uid_eq d.id u) refl refl (not_chosen
     by true true k o more = never (p f) (ap p (sym (a.0 o)) ∙ k) h
     by true false k o more = ap (λ b. b || is_among_entries (filter p es) u) o ∙ more
 
-fewer : (p : EntryFacts → Bool) (u : Uid) (es : List EntryFacts) → is_among_entries es u ≡ false → is_among_entries (filter p es) u ≡ false
+pub fewer : (p : EntryFacts → Bool) (u : Uid) (es : List EntryFacts) → is_among_entries es u ≡ false → is_among_entries (filter p es) u ≡ false
 fewer p u [] h = refl
 fewer p u (d ∷ es) h = by (p d) (uid_eq d.id u) refl h (fewer p u es)
   where

@@ -6,3 +6,5 @@ pub mod Known
 pub mod Climb
 pub mod Seen
 pub mod Listed
+pub mod Placed
+pub mod Changes

@@ -2,10 +2,12 @@
 #![tactic(auto)]
 
 mod asked;
+mod changed;
 mod child;
 mod laws;
 mod listing;
 mod named;
+mod places;
 mod plan;
 mod room;
 mod row;
@@ -15,6 +17,7 @@ mod step;
 mod tree;
 mod way;
 
+pub use changed::{Changed, ChangedList};
 pub use laws::tree_laws;
 pub use plan::Plan;
 pub use tree::UrpTree;

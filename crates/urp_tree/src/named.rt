@@ -94,7 +94,7 @@ fn is_joined(own: &Rdn, text: &[u8], rdn: &Rdn) -> bool
     is_joined_at(own.avas.as_slice(), at, text, rdn.avas.as_slice())
 }
 
-fn same_id(a: Uid, b: Uid) -> bool
+pub(crate) fn same_id(a: Uid, b: Uid) -> bool
     ensures { result ≡ uid_eq a b }
 {
     a.csn.compare(b.csn).is_eq()

@@ -20,7 +20,7 @@ use shown_entry::{dn_text, tombstone_rdn, with_id};
 use stamp_entry::StampedEntry;
 use std::alloc::Global;
 
-fn copied(rdn: &Rdn) -> Result<Rdn, NoMemory>
+pub(crate) fn copied(rdn: &Rdn) -> Result<Rdn, NoMemory>
     ensures { IfOk result (λ copy. copy ≡ rdn.now) }
 {
     Ok(rdn.clone()?)

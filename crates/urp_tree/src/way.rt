@@ -208,7 +208,8 @@ pub(crate) fn steps_of(
     requires known { is_among_entries (facts_in rows.now.entries) (needed change.now.target change.now.body) ≡ true }
     requires fresh { is_add change.now.body ≡ true → is_among_entries (facts_in rows.now.entries) change.now.target ≡ false }
     requires entry { (suffix : Suffix) → new.now ≡ entry_after suffix change.now (facts_in rows.now.entries) }
-    ensures { IfOk result (IsWay (suc (length (facts_in rows.now.entries))) (facts_in rows.now.entries) new.now) }
+    ensures leads { IfOk result (IsWay (suc (length (facts_in rows.now.entries))) (facts_in rows.now.entries) new.now) }
+    ensures child { IfOk result (λ ss. (ss ≡ []) ⊎ (uid_eq new.now.id suffix_id ≡ false)) }
 {
     if is_modify(&change.body) {
         return Ok(Items::new(alloc));
