@@ -13,9 +13,8 @@ made=$(mktemp -d)
 trap 'rm -r "$made"' EXIT
 
 # a repository of the crates below the rules and of a program
+(cd "$here" && tar cf - --exclude=out crates crates.txt HANDLES) | tar xf - -C "$made"
 mkdir -p "$made/crates/judge_times/src"
-for crate in "$here"/crates/*; do ln -s "$crate" "$made/crates/"; done
-cp "$here/crates.txt" "$made/crates.txt"
 echo 'judge_times: repl_data dn_text plain_view ldap_types ldap_requests ldap_rules anyhow' >> "$made/crates.txt"
 cat > "$made/crates/judge_times/src/main.rt" <<'END'
 //! Judges the write in a file, and prints the least time that it took, and the code.

@@ -39,6 +39,7 @@ use Rattle.ldap_types.specs.declared.request.Control.{Control}
 use Rattle.ldap_types.specs.declared.request.RawMod.{RawMod}
 use Rattle.ldap_types.specs.declared.reply.Identity.{Identity}
 use Rattle.rule_values.specs.Written.{Values, replaced, written}
+use Rattle.rule_values.proofs.Effect.{same_effect}
 use Rattle.rule_values.specs.Modify.{shown_values, after, has_part, has_second}
 use Rattle.ldap_rules.specs.Writes.{all_writes}
 use Rattle.ldap_rules.specs.Rename.{parts, own_values}
@@ -57,7 +58,7 @@ use Rattle.plain_effect.proofs.Below.{acts_earlier, zero_below}
 use Rattle.plain_effect.proofs.Runs.{vals_all, AreRising}
 use Rattle.plain_effect.proofs.Whole.{AreLate, AreEarlier, IsOnce, Leaves, has_mod}
 use Rattle.plain_effect.proofs.Attrs.{AreFull, shown_attrs, value_shown, attrs_effect}
-use Rattle.plain_effect.proofs.WrittenMods.{written_once, many_left, one_left, left_by}
+use Rattle.plain_effect.proofs.WrittenMods.{written_once, left_by}
 
 abbrev key_of : Val → List ℕ
 key_of v = v.key
@@ -206,22 +207,16 @@ module _ (suffix : Suffix) (xs : List Change) (given : List RawMod) (rdns : List
   name_is : (own_name (view_of suffix xs) u).avas ≡ rdn.avas
   name_is = ap (λ (o : Option PresentEntry). parts (first_of_two (option_map (λ (e : PresentEntry). e.name) o) (option_map (λ (e : Tombstone). e.name) (gone_at (view_of suffix xs) u)))) (at_view suffix xs u there)
 
-  -- what the modifications leave of an attribute
-  left : (t : AttrKey) → last (view_of suffix xs) u m.mods t.name ≡ vals_all t m.mods (vals_shown rdn (attr_facts acts t))
-  left t =
-      left_by t (shown_values (own_values (view_of suffix xs) u)) m.mods
-      ∙ ap (vals_all t m.mods) (ap (λ (own : List Shown). shown_values own t.name) own_is ∙ has_before rdn acts t)
-
-  written_left : (t : AttrKey) → has_mod t ms ≡ true → vals_all t ms (vals_shown rdn (attr_facts acts t)) ≡ last (view_of suffix xs) u m.mods t.name
-  written_left t h = by (is_single t) refl
-    where
-      by : (b : Bool) → is_single t ≡ b → vals_all t (written (last (view_of suffix xs) u m.mods) m.mods) (vals_shown (entry_facts suffix xs u).rdn (attr_facts (acts_on suffix u (of_entry xs u)) t)) ≡ last (view_of suffix xs) u m.mods t.name
-      by true s = one_left t (last (view_of suffix xs) u m.mods) m.mods _ s h
-      by false s = many_left t (last (view_of suffix xs) u m.mods) m.mods _ s ∙ sym (left t)
+  -- what is written leaves of an attribute what the modifications leave
+  written_left : (t : AttrKey) → vals_all t ms (vals_shown rdn (attr_facts acts t)) ≡ last (view_of suffix xs) u m.mods t.name
+  written_left t =
+      let start : Values = shown_values (own_values (view_of suffix xs) u) in
+      ap (vals_all t ms) (sym (ap (λ (own : List Shown). shown_values own t.name) own_is ∙ has_before rdn acts t))
+      ∙ sym (left_by t start ms) ∙ same_effect start m.mods t.name
 
   leaves : (t : AttrKey) → Leaves rdn t ms (vals_shown rdn (attr_facts acts t))
   leaves t k n h =
-      subst (λ (vals : List Val). list_any (λ (w : Val). bytes_eq w.key k) vals ≡ true) (sym (written_left t h))
+      subst (λ (vals : List Val). list_any (λ (w : Val). bytes_eq w.key k) vals ≡ true) (sym (written_left t))
       (part_has (last (view_of suffix xs) u m.mods) t k rdn.avas (subst (λ (avas : List Ava). list_all (has_part (last (view_of suffix xs) u m.mods)) avas ≡ true) name_is m.kept) n)
 
   entry_effect : (c : Csn) → IsClosed xs → IsAbove c xs → IsDrawnAbove c u
