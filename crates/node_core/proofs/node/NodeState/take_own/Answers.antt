@@ -42,4 +42,4 @@ invariant_of-self-2 c =
     let reserved = ap (λ (l : Log). l.changes) c.in_ok-reserve.ensures.ok in
     let ch = subst (λ n. IsChosen n c.args.old c.args.change.csn) (sym c.self.view_is) c.requires.chosen in
     let o = subst (λ n. IsOpen n c.args.old) (sym c.self.view_is) c.requires.open in
-    rw (log, reserved, c.redraw.ensures.pending, c.redraw.ensures.last) (kept-own _ c.self.inside.heads c.in_ok-heads.heads c.args.old c.args.change c.self.invariant.0 o ch (arrives _ _ _ c.args.change c.self.view_is c.requires.arrives refl) c.in_ok-heads.ensures, shown-next _ _ c.args.change c.in_ok-plan.plan c.self.inside.view _ _ _ c.tree_laws.ensures.next (arrives _ _ _ c.args.change c.self.view_is c.requires.arrives refl) (record { time = omega arith; seq = omega arith; rid = omega arith; sub = omega arith }) c.self.invariant.1 c.in_ok-plan.ensures.suffix c.in_ok-plan.ensures.facts (c.in_ok-plan.ensures.entry c.self.inside.suffix) c.install.ensures.suffix c.install.ensures.facts)
+    rw (log, reserved, c.redraw.ensures.pending, c.redraw.ensures.last) (kept-own _ c.self.inside.heads c.in_ok-heads.heads c.args.old c.args.change c.self.invariant.0 o ch (arrives _ _ _ c.args.change c.self.view_is c.requires.arrives refl) c.in_ok-heads.ensures, shown-next _ _ c.args.change c.in_ok-plan.plan.entry c.self.inside.view _ _ _ c.tree_laws.ensures.next (arrives _ _ _ c.args.change c.self.view_is c.requires.arrives refl) (record { time = omega arith; seq = omega arith; rid = omega arith; sub = omega arith }) c.self.invariant.1 c.in_ok-plan.ensures.suffix c.in_ok-plan.ensures.facts (c.in_ok-plan.ensures.entry c.self.inside.suffix) c.install.ensures.suffix c.install.ensures.facts)

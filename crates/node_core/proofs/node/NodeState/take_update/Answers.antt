@@ -32,4 +32,4 @@ invariant_of-self-2 c =
     let log = ap (λ (l : Log). l.changes) c.append.ensures.appended in
     let reserved = ap (λ (l : Log). l.changes) c.in_ok-reserve.ensures.ok in
     let next = subst (λ n. IsNext n c.args.change) (sym c.self.view_is) c.requires in
-    rw (log, reserved, c.raise.ensures) (kept-next _ c.self.inside.heads c.in_ok-heads.heads c.args.change c.self.invariant.0 next (omega arith) (omega arith) c.in_ok-heads.ensures, shown-next _ _ c.args.change c.in_ok-plan.plan c.self.inside.view _ _ _ c.tree_laws.ensures.next (next-arrives _ c.args.change c.self.invariant.0.sound c.self.invariant.0.arrival next (omega arith) (omega arith)) (record { time = omega arith; seq = omega arith; rid = omega arith; sub = omega arith }) c.self.invariant.1 c.in_ok-plan.ensures.suffix c.in_ok-plan.ensures.facts (c.in_ok-plan.ensures.entry c.self.inside.suffix) c.install.ensures.suffix c.install.ensures.facts)
+    rw (log, reserved, c.raise.ensures) (kept-next _ c.self.inside.heads c.in_ok-heads.heads c.args.change c.self.invariant.0 next (omega arith) (omega arith) c.in_ok-heads.ensures, shown-next _ _ c.args.change c.in_ok-plan.plan.entry c.self.inside.view _ _ _ c.tree_laws.ensures.next (next-arrives _ c.args.change c.self.invariant.0.sound c.self.invariant.0.arrival next (omega arith) (omega arith)) (record { time = omega arith; seq = omega arith; rid = omega arith; sub = omega arith }) c.self.invariant.1 c.in_ok-plan.ensures.suffix c.in_ok-plan.ensures.facts (c.in_ok-plan.ensures.entry c.self.inside.suffix) c.install.ensures.suffix c.install.ensures.facts)
