@@ -1,0 +1,5 @@
+pub mod Entries
+pub mod Equations
+pub mod Greedy
+pub mod LentShows
+pub mod Names
