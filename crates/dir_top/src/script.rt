@@ -6,7 +6,7 @@ ghost use Rattle.dir_top.specs.declared.state.State.{State};
 ghost use Rattle.dir_top.specs.State.{connection_in, holds_part};
 ghost use Rattle.dir_top.specs.Message.{request_of};
 ghost use Rattle.node_core.specs.Calls.{is_client_write};
-ghost use Rattle.dir_top.specs.Script.{TheNode, TheConnection, NewConnection, TheTicket, NewTicket, TheUpdate, why_name, why_state, first_why, is_committed, why_if, is_one_write, is_write_to_come, is_to_come, is_started, line_step, owes, start_by, start_of};
+ghost use Rattle.dir_top.specs.Script.{TheNode, TheConnection, NewConnection, TheTicket, NewTicket, TheUpdate, why_name, why_state, first_why, is_committed, why_if, is_one_write, is_write_to_come, is_to_come, is_started, line_step, owes, start_by, start_of, owed_to};
 ghost use Rattle.dir_top.specs.Report.{start_text};
 ghost use Rattle.dir_top.specs.Step.{meant, IsEventLine};
 
@@ -32,6 +32,19 @@ pub(crate) enum Step {
     GoesOn(Bytes),
     Refuses(LineWhy),
     NotBuilt,
+}
+
+/// Who waits for a ticket of this write.
+fn owed_to(k: u32, c: u16, instance: u64, request: &Request) -> Owed
+    ensures { result ≡ owed_to k c instance request.now }
+{
+    Owed {
+        ticket: k,
+        connection: c,
+        instance,
+        id: request.id,
+        kind: kind_of(&request.op),
+    }
 }
 
 impl State {
@@ -316,13 +329,7 @@ impl State {
             lose_request(request);
             return Ok(Bytes::new(alloc));
         };
-        let owed = Owed {
-            ticket: k,
-            connection: c,
-            instance: *instance,
-            id: request.id,
-            kind: kind_of(&request.op),
-        };
+        let owed = owed_to(k, c, *instance, &request);
         let event = Event::Start {
             k,
             n: *node,
