@@ -3,8 +3,7 @@
 # for each number the time, and the adds a second.
 #
 # Each person has a name of their own below ou=People, four classes, a common name, a surname, mail and a telephone
-# number. What grows faster than the number of people is the plain view, which looks at each entry for each add;
-# docs/MAP.md says what takes its place.
+# number. The time of an add grows with a logarithm of the people that are there (docs/MAP.md).
 set -eu
 
 here=$(cd "$(dirname "$0")/.." && pwd)
