@@ -9,7 +9,7 @@ use ldap_types::{Boxed, Bytes, BytesList, Filter, FilterList};
 use std::alloc::Global;
 
 /// The bytes of the next word.
-fn next_bytes(alloc: Global, fields: &mut Fields<'_>) -> Result<Bytes, CaseFault> {
+pub fn next_bytes(alloc: Global, fields: &mut Fields<'_>) -> Result<Bytes, CaseFault> {
     let bytes = fields.bytes(alloc)?;
     or_memory(Bytes::from_slice(alloc, bytes.as_slice()))
 }
