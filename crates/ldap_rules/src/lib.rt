@@ -25,4 +25,6 @@ pub use judging::{is_built, is_change, is_judged, is_update, judge};
 pub use laws::rule_laws;
 pub use ldap_types::Identity;
 pub use name_keys::place_laws;
+pub use names::{object, rdns_above};
+pub use walk::{Place, entry_at};
 pub use writes::UPDATE_CONTROL;

@@ -32,7 +32,7 @@ pub(crate) fn same_keys(a: &Dn, b: &Dn) -> bool
 }
 
 /// The name that a request names.
-pub(crate) fn object(alloc: Global, text: &[u8]) -> Result<Dn, JudgeFault>
+pub fn object(alloc: Global, text: &[u8]) -> Result<Dn, JudgeFault>
     ensures { Gives result (read_object (dn_in text.now)) }
 {
     match read_dn(alloc, text) {
@@ -57,7 +57,7 @@ fn cut(alloc: Global, name: Dn, suffix: &Dn) -> Result<RdnList, JudgeFault>
 }
 
 /// The relative names of a name above the suffix, the entry's own first.
-pub(crate) fn rdns_above(alloc: Global, name: Dn, suffix: &[u8]) -> Result<RdnList, JudgeFault>
+pub fn rdns_above(alloc: Global, name: Dn, suffix: &[u8]) -> Result<RdnList, JudgeFault>
     ensures { Gives result (within (rdns_above (dn_in suffix.now) name)) }
 {
     match read_dn(alloc, suffix) {

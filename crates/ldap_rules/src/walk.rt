@@ -12,7 +12,7 @@ use std::alloc::Global;
 
 /// Where a name leads.
 #[derive(Clone, Copy, Debug)]
-pub(crate) enum Place {
+pub enum Place {
     /// To this entry.
     There(Uid),
     /// To none. The nearest present entry above is this one.
@@ -57,7 +57,7 @@ fn shown_name<V: View>(alloc: Global, view: &V, id: Uid) -> Result<Bytes, NoMemo
 }
 
 /// The entry of a name.
-pub(crate) fn entry_at<V: View>(alloc: Global, view: &V, rdns: &[Rdn]) -> Result<Uid, JudgeFault>
+pub fn entry_at<V: View>(alloc: Global, view: &V, rdns: &[Rdn]) -> Result<Uid, JudgeFault>
     ensures { Gives result (entry_at (V.view view.now) rdns.now) }
 {
     match place_of(view, rdns) {

@@ -1,0 +1,10 @@
+pub mod Told
+pub mod Taken
+pub mod Sofar
+pub mod Bases
+pub mod Askings
+pub mod Lists
+pub mod Rising
+pub mod Vals
+pub mod Gives
+pub mod Matches

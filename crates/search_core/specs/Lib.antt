@@ -1,0 +1,10 @@
+pub mod Tree
+pub mod Scope
+pub mod Selection
+pub mod Selected
+pub mod Made
+pub mod Tombstones
+pub mod Hits
+pub mod Query
+pub mod Dead
+pub mod Search
