@@ -60,20 +60,35 @@ fn measure(rt: &HostRuntime, view: &PlainView, request: &Request) -> Result<()> 
     Ok(())
 }
 
-fn main(rt: HostRuntime) -> Result<()> {
-    let Some(name) = env::args(&rt)?.skip(1).next() else {
-        bail!("usage: judge_times FILE");
-    };
-    let bytes = fs::read(&rt, name.as_str())?;
-    let Ok((request, _)) = read_request(rt.alloc(), bytes.as_slice()) else {
-        bail!("no request");
-    };
-    let Ok(suffix) = read_suffix(rt.alloc(), b"dc=example".as_slice()) else {
+/// The view of the suffix entry alone.
+fn empty_view(alloc: Global) -> Result<PlainView> {
+    let Ok(suffix) = read_suffix(alloc, b"dc=example".as_slice()) else {
         bail!("no memory");
     };
-    let changes = Items::new(rt.alloc());
-    let view = PlainView::of(rt.alloc(), &suffix, changes.as_slice())?;
-    measure(&rt, &view, &request)
+    let changes = Items::new(alloc);
+    Ok(PlainView::of(alloc, &suffix, changes.as_slice())?)
+}
+
+fn measure_message(rt: &HostRuntime, bytes: &[u8]) -> Result<()> {
+    let Ok((request, _)) = read_request(rt.alloc(), bytes) else {
+        bail!("no request");
+    };
+    let view = empty_view(rt.alloc())?;
+    measure(rt, &view, &request)
+}
+
+/// The first word after the program's name.
+fn first_word(rt: &HostRuntime) -> Result<String> {
+    match env::args(rt)?.skip(1).next() {
+        Some(name) => Ok(name),
+        None => bail!("usage: judge_times FILE"),
+    }
+}
+
+fn main(rt: HostRuntime) -> Result<()> {
+    let name = first_word(&rt)?;
+    let bytes = fs::read(&rt, name.as_str())?;
+    measure_message(&rt, bytes.as_slice())
 }
 END
 
