@@ -1,6 +1,6 @@
 #!/bin/sh
-# Prints how many adds a second `dirnode exec` takes while it loads an address book of 100, 1,000 and 10,000 people:
-# for each number the time, and the adds a second.
+# Prints how many adds a second `dirnode exec` takes while it loads an address book of 1,000, 10,000 and 100,000 people:
+# for each number the time, its ratio to the time of the number before, and the adds a second.
 #
 # Each person has a name of their own below ou=People, four classes, a common name, a surname, mail and a telephone
 # number. The time of an add grows with a logarithm of the people that are there (docs/MAP.md).
@@ -57,12 +57,15 @@ generate() {
 
 script=$(mktemp)
 trap 'rm -f "$script"' EXIT
-for people in 100 1000 10000; do
+before=
+for people in 1000 10000 100000; do
     generate "$people" > "$script"
     start=$(date +%s.%N)
     added=$("$here/dirnode" exec < "$script" | grep -c '^out 1 300c02010269070a010004000400$')
     end=$(date +%s.%N)
     [ "$added" -eq $((people + 1)) ]
     time=$(echo "$end - $start" | bc)
-    printf '%8s people %9.3f s %9.0f adds a second\n' "$people" "$time" "$(echo "$people / $time" | bc -l)"
+    ratio=${before:+"times $(echo "scale=1; $time / $before" | bc)"}
+    printf '%8s people %9.3f s   %-11s %9.0f adds a second\n' "$people" "$time" "$ratio" "$(echo "$people / $time" | bc -l)"
+    before=$time
 done

@@ -3,8 +3,7 @@
 # to the other: for each number of changes the time, and its ratio to the time of the number before.
 #
 # Each change is an add of a name of its own. Tickets are begun by hundreds, committed last first and settled first first;
-# then each change is offered and delivered. What grows faster than the number of changes is the plain view, which looks
-# at each entry for each add; docs/MAP.md says what takes its place.
+# then each change is offered and delivered.
 set -eu
 
 here=$(cd "$(dirname "$0")/.." && pwd)
