@@ -27,8 +27,8 @@ use Rattle.dn_text.specs.declared.name.Dn.{Dn}
 use Rattle.dn_text.specs.declared.fault.DnFault.{DnFault}
 use Rattle.dn_text.specs.Laws.{IsReadable, AreReadable, AreReadableParts, IsReadablePart}
 use Rattle.dn_text.specs.Reading.{dn_in}
-use Rattle.ldap_rules.specs.Names.{entry_at}
-use Rattle.ldap_rules.specs.Writes.{read_object}
+use Rattle.dn_text.specs.Names.{entry_at}
+use Rattle.dn_text.specs.Names.{read_object}
 use Rattle.ldap_rules.specs.Ordered.{Rises}
 use Rattle.ldap_rules.specs.Laws.{IsDrawnAbove, has_entry}
 use Rattle.ldap_rules.specs.Carried.{CarriesKeys, AllCarryKeys}

@@ -41,7 +41,7 @@ use Rattle.rule_values.specs.Written.{Values, is_modified, replaced, write_befor
 use Rattle.rule_values.specs.Modify.{shown_values, after, kind_of, read_mod, fits, carried, has_part, has_second, ended, modifications}
 use Rattle.ldap_rules.specs.Ordered.{Rises, val_key}
 use Rattle.ldap_rules.specs.Case.{coded}
-use Rattle.ldap_rules.specs.Names.{entry_at}
+use Rattle.dn_text.specs.Names.{entry_at}
 use Rattle.ldap_rules.specs.Carried.{CarriesKeys, AllCarryKeys, IsOwnName, AreOwnVals}
 use Rattle.ldap_rules.specs.Rename.{own_values}
 use Rattle.ldap_rules.specs.Modify.{own_name, modify_made}

@@ -14,9 +14,9 @@ use Rattle.std.proofs.lemmas.Cmp.{tied_itself}
 use Rattle.std.specs.Ordering.{is_eq}
 use Rattle.repl_data.proofs.Known.{known_by_view}
 use Rattle.repl_data.specs.Facts.{added_ids}
-use Rattle.ldap_rules.specs.declared.walk.Place.{Place}
-use Rattle.ldap_rules.specs.declared.walk.Place.TheVariants.{There, Nearest}
-use Rattle.ldap_rules.specs.Names.{below, place_of, found, entry_at}
+use Rattle.dn_text.specs.declared.place.Place.{Place}
+use Rattle.dn_text.specs.declared.place.Place.TheVariants.{There, Nearest}
+use Rattle.dn_text.specs.Names.{below, place_of, found, entry_at}
 use Rattle.ldap_rules.specs.Laws.{has_entry}
 
 same_id : (u : Uid) → uid_eq u u ≡ true

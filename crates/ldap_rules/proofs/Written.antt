@@ -20,10 +20,10 @@ use Rattle.ldap_types.specs.declared.request.RawAttr.{RawAttr}
 use Rattle.ldap_types.specs.declared.reply.Identity.{Identity}
 use Rattle.ldap_types.specs.declared.reply.LdapResult.{LdapResult}
 use Rattle.ldap_rules.specs.Case.{◌>>=◌, coded}
-use Rattle.ldap_rules.specs.Names.{rdns_above, count_above, entry_at}
+use Rattle.dn_text.specs.Names.{rdns_above, count_above, entry_at, read_object, within}
 use Rattle.rule_values.specs.declared.fault.Refusal.TheVariants as why
 use Rattle.rule_values.specs.Listed.{named_keys, attribute_count, attributes_beside, with_name, has_too_many_values, is_class, entry_attributes}
-use Rattle.ldap_rules.specs.Writes.{is_unknown, is_update_control, is_manager, is_supplier, read_object, within, all_writes, not_too_heavy}
+use Rattle.ldap_rules.specs.Writes.{is_unknown, is_update_control, is_manager, is_supplier, all_writes, not_too_heavy}
 use Rattle.ldap_rules.specs.Add.{add_body, add_verdict}
 use Rattle.ldap_rules.specs.Verdict.{Writes, adds}
 use Rattle.ldap_rules.specs.Laws.{change_at, needed_at, IsDrawnAbove, has_entry}

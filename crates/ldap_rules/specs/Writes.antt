@@ -14,7 +14,7 @@ use Rattle.dn_text.specs.declared.name.Dn.{Dn}
 use Rattle.dn_text.specs.declared.fault.DnFault.{DnFault}
 use Rattle.dn_text.specs.Reading.{dn_in}
 use Rattle.ldap_rules.specs.Case.{◌>>=◌, refuse, refuse_if}
-use Rattle.ldap_rules.specs.Names.{rdns_above}
+use Rattle.dn_text.specs.Names.{rdns_above, read_object, within}
 
 -- ---- who asks, and how
 
@@ -34,14 +34,6 @@ is_supplier Supplier = true
 is_supplier _ = false
 
 -- ---- the cases, in their order: the RDNs of the name above the suffix, the entry's own first
-
-abbrev pub read_object : Result Dn DnFault → Result Dn LdapResult
-read_object (Ok dn) = Ok dn
-read_object (Err e) = refuse 34
-
-abbrev pub within : Option (List Rdn) → Result (List Rdn) LdapResult
-within (Some rdns) = Ok rdns
-within None = refuse 32
 
 -- the name's RDNs above the suffix, which the text spells
 unfoldable pub all_writes : List ℕ → List Control → Identity → List ℕ → Result (List Rdn) LdapResult

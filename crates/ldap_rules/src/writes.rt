@@ -7,9 +7,7 @@ ghost use Rattle.ldap_rules.specs.Case.{Gives};
 ghost use Rattle.ldap_rules.specs.Writes.{is_update_control, is_unknown, is_manager, is_supplier, all_writes, not_too_heavy, light_change};
 
 use crate::case::refuse_if;
-use crate::fault::JudgeFault;
-use crate::names::{object, rdns_above};
-use dn_text::RdnList;
+use dn_text::{JudgeFault, RdnList, object, rdns_above};
 use ldap_types::{Code, Control, Identity};
 use repl_data::{Body, Uid, same_bytes, weight};
 use std::alloc::Global;

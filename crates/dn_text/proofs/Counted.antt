@@ -12,7 +12,7 @@ use Rattle.repl_data.proofs.Orders.{rdn_key_exact, rdn_key_total}
 use Rattle.repl_data.proofs.InOrder.{is_equal}
 use Rattle.dn_text.specs.declared.name.Dn.{Dn}
 use Rattle.dn_text.specs.Below.{keys_of, StandsAbove}
-use Rattle.ldap_rules.specs.Names.{same_keys, count_above}
+use Rattle.dn_text.specs.Names.{same_keys, count_above}
 
 keys_same : (a b : List Rdn) → same_keys a b ≡ true → keys_of a ≡ keys_of b
 keys_same a b h = slice_cmp-IsAntisymmetric rdn_key_exact (keys_of a) (keys_of b) (is_equal (slice_cmp rdn_key_cmp (keys_of a) (keys_of b)) h)
