@@ -5,7 +5,7 @@ use Rattle.repl_data.specs.declared.csn.Uid.{Uid}
 use Rattle.repl_data.specs.declared.change.Rdn.{Rdn}
 use Rattle.repl_data.specs.declared.change.Body.{Body}
 use Rattle.repl_data.specs.Order.{bytes_eq}
-use Rattle.repl_data.specs.Check.{weight}
+use Rattle.repl_data.specs.Check.{greatest_weight, weight}
 use Rattle.ldap_types.specs.declared.request.Control.{Control}
 use Rattle.ldap_types.specs.declared.reply.Identity.{Identity}
 use Rattle.ldap_types.specs.declared.reply.Identity.TheVariants.{Manager, Supplier}
@@ -47,7 +47,7 @@ all_writes suffix controls bound object =
 -- ---- last for every write
 
 abbrev pub not_too_heavy : Body → Result Body LdapResult
-not_too_heavy body = refuse_if (nat_lt 2097152 (weight body)) 11 >>= λ _. Ok body
+not_too_heavy body = refuse_if (nat_lt greatest_weight (weight body)) 11 >>= λ _. Ok body
 
 -- a change of an entry that is there
 abbrev pub light_change : Uid × Body → Result (Uid × Body) LdapResult
