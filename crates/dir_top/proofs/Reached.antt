@@ -29,11 +29,11 @@ use Rattle.conn_core.specs.Whole.{stream_of}
 use Rattle.conn_core.specs.Serving.{plain_code}
 use Rattle.node_core.specs.Calls.{is_client_write}
 use Rattle.node_core.proofs.Verdicts.{client_write}
-use Rattle.dir_top.specs.Message.{request_of, is_write}
+use Rattle.dir_top.specs.Message.{request_of}
 use Rattle.dir_top.specs.Client.{with_bytes}
 use Rattle.dir_top.specs.Serving.{Served, after_plain, after_write, serve_op, serve, serve_all, fed}
 use Rattle.dir_top.proofs.WritesAt.{write-node}
-use Rattle.dir_top.specs.Script.{is_built, is_write_to_come, is_one_write, TheNode, TheConnection, TheTicket, NewTicket, why_if, why_first, why_name, why_state, why_at, why_last, first_why, why_of, start_by, start_of, carried, goes_on, unless_refused, line_step, step_of, script_line, line_limit, length_limit}
+use Rattle.dir_top.specs.Script.{is_built, is_one_write, TheNode, TheConnection, TheTicket, NewTicket, why_if, why_first, why_name, why_state, why_at, why_last, first_why, why_of, start_by, start_of, carried, goes_on, unless_refused, line_step, step_of, script_line, line_limit, length_limit}
 use Rattle.dir_top.proofs.Leading.{leads-refl, leads-then, leads-event}
 
 -- ---- reasons that do not stand
@@ -90,13 +90,6 @@ is_committed' k (Some t) e = not-false t.committed (why_if-none (not t.committed
 has_session : (o : Option Session) → is_none o ≡ false → IsSome o
 has_session None e = absurd (true≢false e)
 has_session (Some s) e = refl
-
--- ---- writes
-
-both_writes : (a b : Bool) → a ≡ true → not (a && not b) ≡ true → b ≡ true
-both_writes true true e f = refl
-both_writes true false e f = absurd (true≢false (sym f))
-both_writes false b e f = absurd (true≢false (sym e))
 
 -- ---- requests on a connection
 
@@ -168,9 +161,9 @@ module _ (s : State) (lawful : IsLawful s.world) where
   begins k c request Closed free built = same
   begins k c request (Open node instance client) free built = leads-event judge_view s.world (event.Start k node request client.bound) (free, client_write request client.bound built)
 
-  starts : (k c : ℕ) (o : Option Request) → ticket_in s.world k ≡ None → is_one_write o ≡ true → not (is_write_to_come o) ≡ true → Carries s (start_of s k c o).0
-  starts k c None free one built = same
-  starts k c (Some request) free one built = begins k c request (connection_in s c) free (both_writes (is_write request) (is_client_write request) one built)
+  starts : (k c : ℕ) (o : Option Request) → ticket_in s.world k ≡ None → is_one_write o ≡ true → Carries s (start_of s k c o).0
+  starts k c None free one = same
+  starts k c (Some request) free one = begins k c request (connection_in s c) free one
 
   pub carries : (l : Line) → is_built (Some s) l ≡ true → why_of (Some s) l ≡ None → Carries s (carried s l).0
   carries line.Nothing b w = same
@@ -186,7 +179,7 @@ module _ (s : State) (lawful : IsLawful s.world) where
       let reasons = four_none (why_first (Some s) l) (why_name s (NewTicket k)) (why_name s (TheConnection c)) (why_last s l) w in
       let free = why_if-none (is_some (ticket_in s.world k)) (why.TicketTaken k) reasons.0 in
       let one = neither (not (is_one_write (request_of bytes))) _ (why_if-none _ why.Request reasons.2) in
-      starts k c (request_of bytes) (no_ticket (ticket_in s.world k) free) (not-false (is_one_write (request_of bytes)) one) b
+      starts k c (request_of bytes) (no_ticket (ticket_in s.world k) free) (not-false (is_one_write (request_of bytes)) one)
   carries (line.Commit k) b w =
       let reasons = three_none (why_first (Some s) (line.Commit k)) (why_name s (TheTicket k)) (why_last s (line.Commit k)) w in
       leads-event judge_view s.world (event.Commit k) (not_committed k (ticket_in s.world k) reasons.1)

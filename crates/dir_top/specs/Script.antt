@@ -1,5 +1,5 @@
 -- What a script means: its lines, one after the other, on a world and the connections to it.
-use Rattle.std.specs.Prelude.{ℕ, Bool, true, false, not, ◌&&◌, ◌||◌, List, [], ◌∷◌, ◌++◌, map, length, nat_lt, nat_le, if◌then◌else◌, Option, Some, None, is_some, is_none, option_map}
+use Rattle.std.specs.Prelude.{ℕ, Bool, true, false, not, ◌||◌, List, [], ◌∷◌, ◌++◌, map, length, nat_lt, nat_le, if◌then◌else◌, Option, Some, None, is_some, is_none, option_map}
 use Rattle.ldap_types.specs.declared.request.Request.{Request}
 use Rattle.node_core.specs.Steps.{judge_view}
 use Rattle.world_core.specs.World.{Ticket, step, is_node, ticket_in, session_in, update_in}
@@ -17,7 +17,7 @@ use Rattle.dir_top.specs.declared.state.Owed.{Owed}
 use Rattle.dir_top.specs.declared.state.State.{State}
 use Rattle.dir_top.specs.Client.{with_bytes, has_built}
 use Rattle.dir_top.specs.State.{new_state, connection_in, is_open, holds_part, opened, owed_for, without_owed}
-use Rattle.dir_top.specs.Message.{request_of, is_write}
+use Rattle.dir_top.specs.Message.{request_of}
 use Rattle.node_core.specs.Calls.{is_client_write}
 use Rattle.conn_core.specs.Serving.{kind_of}
 use Rattle.dir_top.specs.Serving.{fed}
@@ -36,14 +36,10 @@ abbrev pub are_built : Option State → ℕ → List ℕ → Bool
 are_built None c bytes = true
 are_built (Some s) c bytes = makes_built bytes (connection_in s c)
 
--- exactly one whole write, which is built or not
+-- exactly one whole write of a client
 abbrev pub is_one_write : Option Request → Bool
 is_one_write None = false
-is_one_write (Some request) = is_write request
-
-abbrev pub is_write_to_come : Option Request → Bool
-is_write_to_come None = false
-is_write_to_come (Some request) = is_write request && not (is_client_write request)
+is_one_write (Some request) = is_client_write request
 
 -- the lines that are not built, whatever they name
 abbrev pub is_to_come : Line → Bool
@@ -51,7 +47,6 @@ is_to_come (Pump a b) = true
 is_to_come (Restart n) = true
 is_to_come (Fail n j) = true
 is_to_come (Audit n) = true
-is_to_come (StartWrite k c bytes) = is_write_to_come (request_of bytes)
 is_to_come line = false
 
 -- Bytes on a connection that is not there are refused as such. (The grammar has no `nodes` of more than 8.)

@@ -282,8 +282,8 @@ fn script_laws()
 /// Carries out the script that the source gives, line after line, and prints to the sink.
 ///
 /// The words are those of the command line without the program's name; they are to be `exec` alone.
-/// The text of a line is written after the line was carried out. The time is linear in the length
-/// of the script, but for the adds of a node, each of which looks at the entries that are there.
+/// The text of a line is written after the line was carried out. The time is linear in the lengths of
+/// the script and of its output, but for logarithms of what the nodes hold.
 pub fn exec_main<S: Source, K: Sink>(
     alloc: Global,
     words: &[String],

@@ -1,11 +1,9 @@
 //! The one write of a `start`.
 
 ghost use Rattle.std.specs.Prelude.{◌≡◌, IfOk};
-ghost use Rattle.dir_top.specs.Message.{request_of, is_write_kind, is_write};
+ghost use Rattle.dir_top.specs.Message.{request_of};
 
-use conn_core::{OpKind, kind_of};
 use ldap_requests::{ReadFault, read_request};
-use ldap_rules::{Identity, is_update};
 use ldap_types::Request;
 use repl_data::NoMemory;
 use std::alloc::Global;
@@ -26,20 +24,4 @@ pub(crate) fn request_of(alloc: Global, bytes: &[u8]) -> Result<Option<Request>,
         Err(ReadFault::NoMemory) => Err(NoMemory),
         Err(_) => Ok(None),
     }
-}
-
-fn is_write_kind(kind: OpKind) -> bool
-    ensures { result ≡ is_write_kind kind }
-{
-    match kind {
-        OpKind::Add | OpKind::Modify | OpKind::Delete | OpKind::Rename => true,
-        _ => false,
-    }
-}
-
-/// A write of a client, and no update of another server.
-pub(crate) fn is_write(request: &Request) -> bool
-    ensures { result ≡ is_write request.now }
-{
-    is_write_kind(kind_of(&request.op)) && !is_update(request, Identity::Supplier)
 }

@@ -6,11 +6,11 @@ ghost use Rattle.dir_top.specs.declared.state.State.{State};
 ghost use Rattle.dir_top.specs.State.{connection_in, holds_part};
 ghost use Rattle.dir_top.specs.Message.{request_of};
 ghost use Rattle.node_core.specs.Calls.{is_client_write};
-ghost use Rattle.dir_top.specs.Script.{TheNode, TheConnection, NewConnection, TheTicket, NewTicket, TheUpdate, why_name, why_state, first_why, is_committed, why_if, is_one_write, is_write_to_come, is_to_come, is_started, line_step, owes, start_by, start_of, owed_to};
+ghost use Rattle.dir_top.specs.Script.{TheNode, TheConnection, NewConnection, TheTicket, NewTicket, TheUpdate, why_name, why_state, first_why, is_committed, why_if, is_one_write, is_to_come, is_started, line_step, owes, start_by, start_of, owed_to};
 ghost use Rattle.dir_top.specs.Report.{start_text};
 ghost use Rattle.dir_top.specs.Step.{meant, IsEventLine};
 
-use crate::message::{is_write, request_of};
+use crate::message::request_of;
 use crate::report::{
     abort_text, acquire_text, commit_text, deliver_text, dump_text, offer_text, release_text,
     settle_text, start_text, vector_text,
@@ -381,7 +381,6 @@ impl State {
     ) -> Result<Bytes, NoMemory>
         requires free { ticket_in self.old.world k ≡ None }
         requires one { is_one_write request ≡ true }
-        requires built { is_write_to_come request ≡ false }
         ensures { IfOk result (λ text. (self.new, text) ≡ start_of self.old k c request) }
     {
         match request {
@@ -394,9 +393,6 @@ impl State {
         ensures { IfOk result (λ step. line_step (Some self.old) (Line.StartWrite k c bytes.now) ≡ meant step (Some self.new)) }
     {
         let request = request_of(alloc, bytes.as_slice())?;
-        if is_write_to_come(&request) {
-            return Ok(Step::NotBuilt);
-        }
         if let Some(why) = self.no_start(k, c, &request) {
             return Ok(Step::Refuses(why));
         }
@@ -463,44 +459,23 @@ fn first_nodes(alloc: Global, state: &mut Option<State>, n: u16) -> Result<Step,
     Ok(Step::GoesOn(Bytes::new(alloc)))
 }
 
-/// Exactly one whole write, which is built or not.
+/// Exactly one whole write of a client.
 fn is_one_write(request: &Option<Request>) -> bool
     ensures { result ≡ is_one_write request.now }
 {
     match request {
-        Some(request) => is_write(request),
+        Some(request) => is_client_write(request),
         None => false,
     }
-}
-
-/// A write that is not built yet.
-fn is_write_to_come(request: &Option<Request>) -> bool
-    ensures { result ≡ is_write_to_come request.now }
-{
-    match request {
-        Some(request) => is_write(request) && !is_client_write(request),
-        None => false,
-    }
-}
-
-/// The write of a `start` that is not built yet.
-fn is_start_to_come(alloc: Global, bytes: &[u8]) -> Result<bool, NoMemory>
-    ensures { IfOk result (λ to_come. to_come ≡ is_write_to_come (request_of bytes.now)) }
-{
-    let request = request_of(alloc, bytes)?;
-    Ok(is_write_to_come(&request))
 }
 
 /// A line that is not built yet, whatever it names.
-fn is_to_come(alloc: Global, line: &Line) -> Result<bool, NoMemory>
-    ensures { IfOk result (λ to_come. to_come ≡ is_to_come line.now) }
+fn is_to_come(line: &Line) -> bool
+    ensures { result ≡ is_to_come line.now }
 {
     match line {
-        Line::Pump { .. } | Line::Restart { .. } | Line::Fail { .. } | Line::Audit { .. } => {
-            Ok(true)
-        }
-        Line::StartWrite { bytes, .. } => is_start_to_come(alloc, bytes.as_slice()),
-        _ => Ok(false),
+        Line::Pump { .. } | Line::Restart { .. } | Line::Fail { .. } | Line::Audit { .. } => true,
+        _ => false,
     }
 }
 
@@ -509,7 +484,7 @@ fn take_first(alloc: Global, state: &mut Option<State>, line: &Line) -> Result<S
     requires { IsNone state.old }
     ensures { IfOk result (λ step. line_step state.old line.now ≡ meant step state.new) }
 {
-    if is_to_come(alloc, line)? {
+    if is_to_come(line) {
         return Ok(Step::NotBuilt);
     }
     match line {

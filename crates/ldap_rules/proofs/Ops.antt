@@ -27,7 +27,7 @@ use Rattle.ldap_rules.specs.Modify.{modify_made, modify_verdict}
 use Rattle.ldap_rules.specs.Delete.{delete_made, delete_verdict}
 use Rattle.ldap_rules.specs.Rename.{rename_made, rename_verdict}
 use Rattle.ldap_rules.specs.Compare.{compare_verdict}
-use Rattle.ldap_rules.specs.Verdict.{Writes, changes, answers, is_built, is_judged, op_verdict}
+use Rattle.ldap_rules.specs.Verdict.{Writes, changes, answers, is_change, is_judged, op_verdict}
 use Rattle.ldap_rules.specs.Laws.{change_at, needed_at, IsDrawnAbove, has_entry, ModifiesEach}
 use Rattle.ldap_rules.proofs.Changed.{delete_checked, delete_there, delete_needs, delete_carries, rename_checked, rename_there, rename_needs, rename_carries}
 use Rattle.ldap_rules.proofs.Modified.{modify_checked, modify_there, modify_needs, modify_each, modify_carries}
@@ -158,7 +158,10 @@ op_each v controls bound object given target body h =
     after_writes (all_writes v.suffix controls bound object) (modify_made v given) (u, body) m (λ rdns e light.
     modify_each v given rdns (u, body) e))
 
--- what is carried out is judged
-pub built_judged : (op : Op) → is_built op ≡ true → is_judged op ≡ true
-built_judged (AddEntry object given) h = refl
-built_judged _ h = let f : false ≡ true = h in cc
+-- what writes is judged
+pub change_judged : (op : Op) → is_change op ≡ true → is_judged op ≡ true
+change_judged (AddEntry object given) h = refl
+change_judged (Modify object mods) h = refl
+change_judged (Delete object) h = refl
+change_judged (Rename object new_rdn delete_old new_superior) h = refl
+change_judged _ h = let f : false ≡ true = h in cc

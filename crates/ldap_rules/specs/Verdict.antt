@@ -50,11 +50,6 @@ is_judged (Delete object) = true
 is_judged (Rename object new_rdn delete_old new_superior) = true
 is_judged _ = false
 
--- those that are carried out so far
-abbrev pub is_built : Op → Bool
-is_built (AddEntry object attrs) = true
-is_built _ = false
-
 -- ---- the whole
 
 -- a new entry

@@ -2,7 +2,7 @@
 
 ghost use Rattle.std.specs.Prelude.{◌≡◌, true, false, IsTrue};
 ghost use Rattle.std.specs.Option.{option_copied};
-ghost use Rattle.ldap_rules.specs.Verdict.{is_update, is_built, is_change, is_judged, verdict_of, IsVerdict};
+ghost use Rattle.ldap_rules.specs.Verdict.{is_update, is_change, is_judged, verdict_of, IsVerdict};
 
 use crate::add::judge_add;
 use crate::compare::judge_compare;
@@ -15,16 +15,6 @@ use dn_text::{JudgeFault, refused};
 use ldap_types::{Code, Identity, Op, Request};
 use repl_data::{Bytes, View};
 use std::alloc::Global;
-
-/// Whether this operation is carried out so far: an add.
-pub fn is_built(op: &Op) -> bool
-    ensures { result ≡ is_built op.now }
-{
-    match op {
-        Op::Add { .. } => true,
-        _ => false,
-    }
-}
 
 /// Whether a request is an update of another server: it has the update control, and its sender is bound
 /// as one. `judge` does not judge these.

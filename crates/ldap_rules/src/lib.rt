@@ -20,7 +20,7 @@ mod writes;
 pub use bind::{MANAGER, MANAGER_PASSWORD, SUPPLIER, SUPPLIER_PASSWORD, judge_bind};
 pub use dn_text::JudgeFault;
 pub use fault::Judged;
-pub use judging::{is_built, is_change, is_judged, is_update, judge};
+pub use judging::{is_change, is_judged, is_update, judge};
 pub use laws::rule_laws;
 pub use ldap_types::Identity;
 pub use name_keys::place_laws;

@@ -8,7 +8,7 @@ use Rattle.ldap_types.specs.declared.reply.Identity.{Identity}
 use Rattle.ldap_types.specs.declared.reply.Identity.TheVariants.{Supplier}
 use Rattle.repl_data.specs.declared.csn.Csn.{Csn}
 use Rattle.ldap_types.specs.declared.reply.LdapResult.{LdapResult}
-use Rattle.ldap_rules.specs.Verdict.{Verdict, Refuses, Answers, is_built, is_supplier, is_update, is_update_control}
+use Rattle.ldap_rules.specs.Verdict.{Verdict, Refuses, Answers, is_change, is_supplier, is_update, is_update_control}
 use Rattle.vector_core.proofs.Lists.{if_true, if_false}
 use Rattle.change_log.specs.Log.{csns_of}
 use Rattle.node_core.specs.declared.fault.CommitFault.TheVariants as commit
@@ -37,16 +37,16 @@ no_update true b e = e
 no_update false b e = refl
 
 -- from the tests of the code
-pub client_parts : (request : Request) (bound : Identity) (built update : Bool) → built ≡ is_built request.op → built ≡ true → update ≡ is_update request Supplier → not update ≡ true → IsWrite request bound
+pub client_parts : (request : Request) (bound : Identity) (built update : Bool) → built ≡ is_change request.op → built ≡ true → update ≡ is_update request Supplier → not update ≡ true → IsWrite request bound
 client_parts request bound built update eb tb eu nu = record {
-  built = sym eb ∙ tb;
+  writes = sym eb ∙ tb;
   no_update = no_update (is_supplier bound) (list_any is_update_control request.controls) (sym eu ∙ not-true update nu);
 }
 
 pub client_write : (request : Request) (bound : Identity) → is_client_write request ≡ true → IsWrite request bound
 client_write request bound e =
-    let parts = and_parts (is_built request.op) (not (list_any is_update_control request.controls)) e in
-    record { built = parts.0; no_update = no_update (is_supplier bound) (list_any is_update_control request.controls) (not-true _ parts.1) }
+    let parts = and_parts (is_change request.op) (not (list_any is_update_control request.controls)) e in
+    record { writes = parts.0; no_update = no_update (is_supplier bound) (list_any is_update_control request.controls) (not-true _ parts.1) }
 
 pub stale-step : (n : Node) (ticket : Ticket) (v : Verdict) (now : ℕ) → ticket.life ≢ n.life → CommitsUnder n ticket v now (Err (ticket, commit.Stale ticket.life n.life)) n
 stale-step n ticket v now d = ((if_false _ _ (ne_eqb ticket.life n.life d), refl), refl, refl)

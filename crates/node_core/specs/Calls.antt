@@ -7,7 +7,7 @@ use Rattle.repl_data.specs.declared.items.NoMemory.{NoMemory}
 use Rattle.io_edge.specs.Causes.{Rose}
 use Rattle.ldap_types.specs.declared.request.Request.{Request}
 use Rattle.ldap_types.specs.declared.reply.Identity.{Identity}
-use Rattle.ldap_rules.specs.Verdict.{Verdict, is_built, is_update, is_update_control}
+use Rattle.ldap_rules.specs.Verdict.{Verdict, is_change, is_update, is_update_control}
 use Rattle.vector_core.specs.declared.answers.Start.{Start}
 use Rattle.vector_core.specs.declared.answers.Offer.{Offer}
 use Rattle.vector_core.specs.declared.answers.Offer.TheVariants as offered
@@ -80,14 +80,14 @@ CommitsUnder met ticket verdict now (Err (back, commit.KeeperFault)) left =
 abbrev pub Commits : Judge → Node → Ticket → Request → Identity → ℕ → Result Receipt (Ticket × CommitFault) → Node → Type 0
 Commits judge met ticket request bound now result left = CommitsUnder met ticket (verdict_at judge met request bound) now result left
 
--- a request that a commit takes: a write that is built, and no update of another server
+-- a request that a commit takes: a write, and no update of another server
 pub record IsWrite (request : Request) (bound : Identity) : Type 0 where
-  pub built : is_built request.op ≡ true
+  pub writes : is_change request.op ≡ true
   pub no_update : is_update request bound ≡ false
 
--- THE WRITES OF CLIENTS THAT ARE BUILT: the rules of the operation are written, and it is no update of another server
+-- THE WRITES OF CLIENTS: an add, a modify, a delete or a modify DN that is no update of another server
 abbrev pub is_client_write : Request → Bool
-is_client_write request = is_built request.op && not (list_any is_update_control request.controls)
+is_client_write request = is_change request.op && not (list_any is_update_control request.controls)
 
 abbrev pub Acquires : Node → Start → ℕ → Result Unit AcquireFault → Node → Type 0
 Acquires met start now (Ok done) left = (acquire_fault met start.suffix start.rid start.front now ≡ None) × (left ≡ after_acquire met start.rid None)

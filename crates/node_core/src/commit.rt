@@ -123,7 +123,7 @@ impl NodeState {
     }
 
     /// What the rules make of a request, on the view of what the node has taken.
-    #[tactic(auto, using(ldap_rules::proofs::Ops::built_judged))]
+    #[tactic(auto, using(ldap_rules::proofs::Ops::change_judged))]
     fn judge(&self, alloc: Global, request: &Request, bound: Identity) -> Result<Judged, JudgeFault>
         requires { IsWrite request.now bound }
         ensures verdict { IsVerdict result (verdict_at judge_view self.now request.now bound) }
