@@ -54,9 +54,10 @@ fn told(alloc: Global, vals: &[Val], key: &Bytes) -> LdapResult
     }
 }
 
-/// Whether what is shown of an entry has the value.
+/// What a compare with an entry that shows these attributes is answered: `compareTrue` where it has the value,
+/// `compareFalse` where it has others, and else a refusal (RFC 4511, section 4.10).
 #[tactic(auto, unfolding(crate::specs::Compare::compared))]
-fn compared(
+pub fn compared(
     alloc: Global,
     shown: &[Shown],
     name: &[u8],

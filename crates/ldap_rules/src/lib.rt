@@ -18,6 +18,7 @@ mod values;
 mod writes;
 
 pub use bind::{MANAGER, MANAGER_PASSWORD, SUPPLIER, SUPPLIER_PASSWORD, judge_bind};
+pub use compare::compared;
 pub use dn_text::JudgeFault;
 pub use fault::Judged;
 pub use judging::{is_change, is_judged, is_update, judge};
