@@ -1,5 +1,7 @@
 pub mod Found
 pub mod Keys
+pub mod Counted
+pub mod Walks
 pub mod Parts
 pub mod Pieces
 pub mod Printed

@@ -6,4 +6,6 @@ pub mod Laws
 pub mod Print
 pub mod Suffix
 pub mod Below
+pub mod Case
 pub mod Reading
+pub mod Names

@@ -1,8 +1,10 @@
-//! Why a text is no name.
+//! Why a text is no name, and why a request that names an entry is refused.
 
 ghost use Rattle.std.specs.Prelude.{◌≡◌};
 ghost use Rattle.dn_text.specs.declared.fault.DnFault.TheVariants as fault;
+ghost use Rattle.dn_text.specs.declared.fault.JudgeFault.TheVariants as judge;
 
+use ldap_types::LdapResult;
 use repl_data::NoMemory;
 
 /// What is wrong at a place of a name's text.
@@ -38,5 +40,22 @@ impl From<NoMemory> for DnFault {
 
     fn from(_error: NoMemory) -> DnFault {
         DnFault::NoMemory
+    }
+}
+
+/// Why a request on an entry is not carried out.
+#[derive(Debug, Drop)]
+pub enum JudgeFault {
+    /// No memory was left.
+    NoMemory,
+    /// The rules refuse it, with this answer.
+    Refused(LdapResult),
+}
+
+impl From<NoMemory> for JudgeFault {
+    ghost from_gives = { λ _ e. e ≡ judge.NoMemory };
+
+    fn from(_error: NoMemory) -> JudgeFault {
+        JudgeFault::NoMemory
     }
 }

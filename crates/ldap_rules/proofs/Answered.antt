@@ -20,8 +20,8 @@ use Rattle.ldap_types.specs.declared.reply.Identity.{Identity}
 use Rattle.ldap_types.specs.declared.reply.LdapResult.{LdapResult}
 use Rattle.ldap_rules.specs.Case.{◌>>=◌, refuse, refuse_if, coded}
 use Rattle.rule_values.specs.Listed.{entry_attributes}
-use Rattle.ldap_rules.specs.Names.{rdns_above, entry_at}
-use Rattle.ldap_rules.specs.Writes.{is_unknown, is_update_control, is_supplier, is_manager, read_object, within, all_writes, not_too_heavy, light_change}
+use Rattle.dn_text.specs.Names.{rdns_above, entry_at, read_object, within}
+use Rattle.ldap_rules.specs.Writes.{is_unknown, is_update_control, is_supplier, is_manager, all_writes, not_too_heavy, light_change}
 use Rattle.ldap_rules.specs.Add.{add_body, add_verdict}
 use Rattle.ldap_rules.specs.Modify.{modify_made, modify_verdict}
 use Rattle.ldap_rules.specs.Delete.{delete_made, delete_verdict}

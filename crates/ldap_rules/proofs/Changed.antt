@@ -23,12 +23,13 @@ use Rattle.repl_data.specs.View.{DirectoryView, children_of, name_of, view_of}
 use Rattle.repl_data.proofs.Orders.{bytes_total}
 use Rattle.repl_data.proofs.Sound.{neither, not_true, not_false, both_true, no_faults}
 use Rattle.repl_data.proofs.CheckLaws.{any-position}
+use Rattle.repl_data.proofs.Known.{any_map}
 use Rattle.dn_text.specs.declared.name.Dn.{Dn}
 use Rattle.dn_text.specs.declared.fault.DnFault.{DnFault}
 use Rattle.dn_text.specs.Laws.{IsReadable, AreReadable, AreReadableParts, IsReadablePart}
 use Rattle.dn_text.specs.Reading.{dn_in}
-use Rattle.ldap_rules.specs.Names.{entry_at}
-use Rattle.ldap_rules.specs.Writes.{read_object}
+use Rattle.dn_text.specs.Names.{entry_at}
+use Rattle.dn_text.specs.Names.{read_object}
 use Rattle.ldap_rules.specs.Ordered.{Rises}
 use Rattle.ldap_rules.specs.Laws.{IsDrawnAbove, has_entry}
 use Rattle.ldap_rules.specs.Carried.{CarriesKeys, AllCarryKeys}
@@ -36,7 +37,7 @@ use Rattle.ldap_rules.specs.Delete.{delete_made}
 use Rattle.ldap_rules.specs.Rename.{only, read_new, stays_below, is_taken, parts, dropped_parts, is_second, own_values, rename_made}
 use Rattle.ldap_rules.proofs.Places.{is_less}
 use Rattle.ldap_rules.proofs.Chains.{by_pass, by_free}
-use Rattle.ldap_rules.proofs.Checked.{any_both, any_map, nowhere, no_first, none_falls, parts_rise, no_empty_part, ids_of_supplier}
+use Rattle.ldap_rules.proofs.Checked.{any_both, nowhere, no_first, none_falls, parts_rise, no_empty_part, ids_of_supplier}
 use Rattle.ldap_rules.proofs.There.{entry_there}
 use Rattle.ldap_rules.proofs.Entries.{entry_below}
 use Rattle.ldap_rules.proofs.OwnNames.{all_mono, all_filter, Names, own_name}
@@ -91,7 +92,7 @@ sound_names c h = by c.body
     by (Add parent rdn attrs) d n = (
       record {
         rises = rises_from rdn.avas (any_first (part_falls rdn.avas) _ d);
-        plain = sym (any_map is_derived_ava rdn.avas) ∙ any_first (map is_derived_ava rdn.avas) _ n;
+        plain = sym (any_map (λ b. b) is_derived_ava rdn.avas) ∙ any_first (map is_derived_ava rdn.avas) _ n;
       },
       tt,
     )
@@ -99,7 +100,7 @@ sound_names c h = by c.body
     by (Ren rdn dropped) d n = (
       record {
         rises = rises_from rdn.avas (any_first (part_falls rdn.avas) _ d);
-        plain = sym (any_map is_derived_ava rdn.avas) ∙ any_first (map is_derived_ava rdn.avas) _ n;
+        plain = sym (any_map (λ b. b) is_derived_ava rdn.avas) ∙ any_first (map is_derived_ava rdn.avas) _ n;
       },
       tt,
     )
@@ -178,7 +179,7 @@ renamed_sound c u new dropped child full readable plain rises underived light dr
     let double : List Bool = part_falls new.avas ++ part_falls dropped in
     let derived : List Bool = map is_derived_ava new.avas ++ map is_derived_ava dropped in
     let d : list_any (λ b. b) double ≡ false = any_both (part_falls new.avas) (part_falls dropped) (none_falls part_name new.avas (parts_rise new.avas readable)) (none_falls part_name dropped rises) in
-    let v : list_any (λ b. b) derived ≡ false = any_both (map is_derived_ava new.avas) (map is_derived_ava dropped) (any_map is_derived_ava new.avas ∙ plain) (any_map is_derived_ava dropped ∙ underived) in
+    let v : list_any (λ b. b) derived ≡ false = any_both (map is_derived_ava new.avas) (map is_derived_ava dropped) (any_map (λ b. b) is_derived_ava new.avas ∙ plain) (any_map (λ b. b) is_derived_ava dropped ∙ underived) in
     no_first (faults_of_frame change ++ faults_of_body body) (
       ap (λ t. fault_if t Rid) (ids_of_supplier c u drawn),
       (
@@ -234,7 +235,7 @@ record IsRenamed (v : DirectoryView) (new_rdn : List ℕ) (old : Bool) (rdns : L
   plain : list_any is_derived_ava new.avas ≡ false
   body : change.1 ≡ Ren new (dropped_parts v change.0 old new)
 
-read_as : (r : Result Dn DnFault) (name : Dn) → read_object r ≡ Ok name → r ≡ Ok name
+pub read_as : (r : Result Dn DnFault) (name : Dn) → read_object r ≡ Ok name → r ≡ Ok name
 read_as (Ok dn) name h = let e : dn ≡ name = cc in ap Ok e
 read_as (Result.Err e) name h = let n : ⊥ = cc in absurd n
 

@@ -20,6 +20,7 @@ use Rattle.repl_data.specs.Order.{bytes_cmp, in_order, csn_eq, csn_lt}
 use Rattle.repl_data.specs.Types.{is_derived_ava, is_derived_value}
 use Rattle.repl_data.specs.Check.{fault_if, either_fault, first_fault, is_empty, falls, falls_after, vals_rise, parts_of, part_falls, either_place, names_derived, weight, faults_of_frame, faults_of_body, fault_of}
 use Rattle.repl_data.proofs.Sound.{neither}
+use Rattle.repl_data.proofs.Known.{any_map}
 use Rattle.repl_data.proofs.Orders.{bytes_total, bytes_exact, put_swap}
 use Rattle.repl_data.proofs.CsnTests.{csn_eq-same}
 use Rattle.dn_text.specs.Laws.{IsBelowAll, AreReadableParts}
@@ -33,10 +34,6 @@ use Rattle.ldap_rules.proofs.Goods.{IsGood, AreRead}
 use Rattle.ldap_rules.proofs.Named.{parts_there, parts_read}
 
 -- ---- where no place is at fault
-
-pub any_map : {X : Type 0} (q : X → Bool) (xs : List X) → list_any (λ b. b) (map q xs) ≡ list_any q xs
-any_map q [] = refl
-any_map q (x ∷ xs) = ap (λ b. q x || b) (any_map q xs)
 
 pub any_both : (xs ys : List Bool) → list_any (λ b. b) xs ≡ false → list_any (λ b. b) ys ≡ false → list_any (λ b. b) (xs ++ ys) ≡ false
 any_both [] ys h g = g
@@ -157,7 +154,7 @@ add_sound c parent rdn given attrs full readable plain read count light drawn =
     any_both (part_falls rdn.avas) (either_place (falls attr_name whole) (map (λ (a : Attr). not (vals_rise a.vals)) whole)) (none_falls (λ (a : Ava). a.attr.name) rdn.avas (parts_rise rdn.avas readable))
     (any_either (falls attr_name whole) (map (λ (a : Attr). not (vals_rise a.vals)) whole) (none_falls attr_name whole r.good.0) (no_unsorted whole r.good.1))
     in
-    let v : list_any (λ b. b) derived ≡ false = any_both (map is_derived_ava rdn.avas) (map (λ (a : Attr). names_derived a.attr a.vals) whole) (any_map is_derived_ava rdn.avas ∙ plain) (no_derived whole r.good.1) in
+    let v : list_any (λ b. b) derived ≡ false = any_both (map is_derived_ava rdn.avas) (map (λ (a : Attr). names_derived a.attr a.vals) whole) (any_map (λ b. b) is_derived_ava rdn.avas ∙ plain) (no_derived whole r.good.1) in
     let body : Body = Add parent rdn whole in
     let change : Change = record { csn = c; target = record { csn = c }; body = body } in
     no_first (faults_of_frame change ++ faults_of_body body) (

@@ -7,9 +7,9 @@ use Rattle.repl_data.specs.Order.{uid_eq, suffix_id, same_rdn}
 use Rattle.repl_data.specs.Check.{is_empty}
 use Rattle.repl_data.specs.View.{DirectoryView, PresentEntry, child_of, is_shown_below}
 use Rattle.repl_data.proofs.Sound.{both_true, not_true, not_both}
-use Rattle.ldap_rules.specs.declared.walk.Place.{Place}
-use Rattle.ldap_rules.specs.declared.walk.Place.TheVariants.{There, Nearest}
-use Rattle.ldap_rules.specs.Names.{below, place_of, found, entry_at}
+use Rattle.dn_text.specs.declared.place.Place.{Place}
+use Rattle.dn_text.specs.declared.place.Place.TheVariants.{There, Nearest}
+use Rattle.dn_text.specs.Names.{below, place_of, found, entry_at}
 
 -- what is found among those that pass a test passes it
 found_passes : (R : Uid → Type 0) (p q : PresentEntry → Bool) → ((e : PresentEntry) → q e ≡ true → R e.id) → (es : List PresentEntry) (u : Uid) → option_map (λ (e : PresentEntry). e.id) (find p (filter q es)) ≡ Some u → R u

@@ -1,6 +1,4 @@
-pub mod Walks
 pub mod Places
-pub mod Keys
 pub mod Chains
 pub mod Goods
 pub mod Named

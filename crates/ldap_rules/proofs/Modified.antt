@@ -3,6 +3,7 @@ use Rattle.std.proofs.Common.{◌≡◌, ℕ, suc, ◌+◌, ◌<◌, ◌≤◌, 
 use Rattle.std.specs.Prelude.{◌&&◌, ◌==◌, codes, filter, flat_map, fold, option_map, if◌then◌else◌}
 use Rattle.std.specs.List.{AllByRecursion, list_any, list_all}
 use Rattle.std.proofs.lemmas.Bool.Decides.{nat_tests}
+use Rattle.std.proofs.lemmas.Bool.{or_right}
 use Rattle.repl_data.specs.declared.csn.Csn.{Csn}
 use Rattle.repl_data.specs.declared.csn.Uid.{Uid}
 use Rattle.repl_data.specs.declared.change.AttrKey.{AttrKey}
@@ -31,6 +32,7 @@ use Rattle.repl_data.proofs.InOrder.{is_equal}
 use Rattle.repl_data.proofs.Raised.{same_attr}
 use Rattle.repl_data.proofs.Sound.{neither, not_both, not_false}
 use Rattle.attr_keys.specs.Table.{key_of, is_single}
+use Rattle.repl_data.proofs.Known.{any_map}
 use Rattle.dn_text.specs.Laws.{IsReadablePart}
 use Rattle.ldap_types.specs.declared.request.RawMod.{RawMod}
 use Rattle.rule_values.specs.declared.fault.Refusal.{Refusal}
@@ -41,7 +43,7 @@ use Rattle.rule_values.specs.Written.{Values, is_modified, replaced, write_befor
 use Rattle.rule_values.specs.Modify.{shown_values, after, kind_of, read_mod, fits, carried, has_part, has_second, ended, modifications}
 use Rattle.ldap_rules.specs.Ordered.{Rises, val_key}
 use Rattle.ldap_rules.specs.Case.{coded}
-use Rattle.ldap_rules.specs.Names.{entry_at}
+use Rattle.dn_text.specs.Names.{entry_at}
 use Rattle.ldap_rules.specs.Carried.{CarriesKeys, AllCarryKeys, IsOwnName, AreOwnVals}
 use Rattle.ldap_rules.specs.Rename.{own_values}
 use Rattle.ldap_rules.specs.Modify.{own_name, modify_made}
@@ -49,9 +51,10 @@ use Rattle.ldap_rules.specs.Laws.{IsDrawnAbove, has_entry, ModifiesEach}
 use Rattle.ldap_rules.proofs.Chains.{by_pass, by_fit, by_code, same_ok}
 use Rattle.ldap_rules.proofs.Places.{all_put, is_same, equal_key}
 use Rattle.ldap_rules.proofs.Goods.{GoodVals, value_good, values_good}
-use Rattle.ldap_rules.proofs.Checked.{any_map, nowhere, no_first, none_falls, ids_of_supplier}
+use Rattle.ldap_rules.proofs.Checked.{nowhere, no_first, none_falls, ids_of_supplier}
 use Rattle.ldap_rules.proofs.There.{entry_there}
-use Rattle.ldap_rules.proofs.OwnNames.{all_mono, all_append, all_filter}
+use Rattle.repl_data.proofs.Loops.{all_append}
+use Rattle.ldap_rules.proofs.OwnNames.{all_mono, all_filter}
 use Rattle.ldap_rules.proofs.OwnKeys.{IsOwnVal, name_own, values_own}
 use Rattle.ldap_rules.proofs.OwnVals.{Gives, ChangeGives, ListsSuch, own_vals}
 
@@ -187,17 +190,13 @@ written_some has [] n = absurd (not_both true refl n)
 written_some has (m ∷ mods) n = written_full has m mods
 
 -- each attribute stands in it
-either_right : (a b : Bool) → b ≡ true → (a || b) ≡ true
-either_right true b h = refl
-either_right false b h = h
-
 still_there : (has : Values) (t : AttrKey) (m : Mod) (mods : List Mod) → is_modified t mods ≡ true → is_modified t (write_before has m mods) ≡ true
 still_there has t m mods h = by (is_single m.attr.name) (is_modified m.attr mods)
   where
     by : (s l : Bool) → is_modified t (if s then (if l then mods else replaced has m.attr ∷ mods) else m ∷ mods) ≡ true
     by true true = h
-    by true false = either_right (bytes_eq m.attr.name t.name) (is_modified t mods) h
-    by false l = either_right (bytes_eq m.attr.name t.name) (is_modified t mods) h
+    by true false = or_right (bytes_eq m.attr.name t.name) (is_modified t mods) h
+    by false l = or_right (bytes_eq m.attr.name t.name) (is_modified t mods) h
 
 put_there : (has : Values) (m : Mod) (mods : List Mod) → is_modified m.attr (write_before has m mods) ≡ true
 put_there has m mods = by (is_single m.attr.name) (is_modified m.attr mods) refl
@@ -274,7 +273,7 @@ abbrev empty_mods : List Mod → List Bool
 empty_mods mods = if is_empty mods then true ∷ [] else map adds_nothing mods
 
 no_empty_mod : (mods : List Mod) → is_empty mods ≡ false → list_any adds_nothing mods ≡ false → list_any (λ b. b) (empty_mods mods) ≡ false
-no_empty_mod mods n h = ap (λ (e : Bool). list_any (λ b. b) (if e then true ∷ [] else map adds_nothing mods)) n ∙ any_map adds_nothing mods ∙ h
+no_empty_mod mods n h = ap (λ (e : Bool). list_any (λ b. b) (if e then true ∷ [] else map adds_nothing mods)) n ∙ any_map (λ b. b) adds_nothing mods ∙ h
 
 modified_sound : (c : Csn) (u : Uid) (mods : List Mod) → is_empty mods ≡ false → nat_lt 1000 (length mods) ≡ false → AllByRecursion IsFine mods → nat_lt 2097152 (weight (ModifyEntry mods)) ≡ false → IsDrawnAbove c u
     → fault_of (record { csn = c; target = u; body = ModifyEntry mods }) ≡ None
@@ -296,9 +295,9 @@ modified_sound c u mods some few fine light drawn =
                 (
                   ap (option_map Empty) (nowhere 0 (empty_mods mods) (no_empty_mod mods some (none_empty mods fine))),
                   (
-                    ap (option_map DoubleKey) (nowhere 0 (map (λ (m : Mod). not (vals_rise m.vals)) mods) (any_map (λ (m : Mod). not (vals_rise m.vals)) mods ∙ none_unsorted mods fine)),
+                    ap (option_map DoubleKey) (nowhere 0 (map (λ (m : Mod). not (vals_rise m.vals)) mods) (any_map (λ b. b) (λ (m : Mod). not (vals_rise m.vals)) mods ∙ none_unsorted mods fine)),
                     (
-                      ap (option_map Derived) (nowhere 0 (map (λ (m : Mod). names_derived m.attr m.vals) mods) (any_map (λ (m : Mod). names_derived m.attr m.vals) mods ∙ none_derived mods fine)),
+                      ap (option_map Derived) (nowhere 0 (map (λ (m : Mod). names_derived m.attr m.vals) mods) (any_map (λ b. b) (λ (m : Mod). names_derived m.attr m.vals) mods ∙ none_derived mods fine)),
                       (refl, done),
                     ),
                   ),

@@ -4,6 +4,7 @@ use Rattle.std.specs.Prelude.{fold}
 use Rattle.std.specs.List.{AllByRecursion, list_any, list_all}
 use Rattle.std.specs.declared.cmp.Ordering.{Ordering}
 use Rattle.std.specs.declared.cmp.Ordering.TheVariants.{Less, Equal, Greater}
+use Rattle.std.proofs.lemmas.Bool.{or_left, or_right}
 use Rattle.repl_data.specs.declared.change.AttrKey.{AttrKey}
 use Rattle.repl_data.specs.declared.change.Val.{Val}
 use Rattle.repl_data.specs.declared.change.Ava.{Ava}
@@ -14,22 +15,11 @@ use Rattle.repl_data.specs.Check.{has_value}
 use Rattle.repl_data.specs.View.{put_attr, put_val, vals_at}
 use Rattle.repl_data.proofs.Sound.{neither, both_true, not_both}
 use Rattle.repl_data.proofs.Orders.{bytes_total, bytes_exact}
-use Rattle.repl_data.proofs.InOrder.{in_order_by-append, any-in_order_by, put-known}
+use Rattle.repl_data.proofs.InOrder.{either_true, in_order_by-append, any-in_order_by, put-known}
 use Rattle.ldap_rules.specs.Ordered.{val_key, attr_name, own_key}
 use Rattle.rule_values.specs.Listed.{has_key, with_part}
 use Rattle.ldap_rules.proofs.Places.{put_rises, equal_key, is_same}
 use Rattle.ldap_rules.proofs.Goods.{AreRead, put_read, vals_good, none_put, full_put}
-
-either_left : (a b : Bool) → a ≡ true → (a || b) ≡ true
-either_left a b h = ap (λ x. x || b) h
-
-either_right : (a b : Bool) → b ≡ true → (a || b) ≡ true
-either_right true b h = refl
-either_right false b h = h
-
-split_either : {G : Type 0} (a b : Bool) → (a || b) ≡ true → (a ≡ true → G) → (b ≡ true → G) → G
-split_either true b h f g = f refl
-split_either false b h f g = g h
 
 -- ---- keys of values
 
@@ -38,21 +28,21 @@ key_stays k v [] h = absurd (not_both false h refl)
 key_stays k v (w ∷ vals) h = by (bytes_cmp v.key w.key) refl (key_stays k v vals)
   where
     by : (o : Ordering) → bytes_cmp v.key w.key ≡ o → (has_key k vals ≡ true → has_key k (put_val v vals) ≡ true) → has_key k (by_order o (v ∷ w ∷ vals) (v ∷ vals) (w ∷ put_val v vals)) ≡ true
-    by Less e more = either_right (bytes_eq v.key k) (has_key k (w ∷ vals)) h
-    by Equal e more = split_either (bytes_eq w.key k) (has_key k vals) h (λ s. either_left (bytes_eq v.key k) (has_key k vals) (ap (λ x. bytes_eq x k) (bytes_exact v.key w.key e) ∙ s)) (λ s. either_right (bytes_eq v.key k) (has_key k vals) s)
-    by Greater e more = split_either (bytes_eq w.key k) (has_key k vals) h (λ s. either_left (bytes_eq w.key k) (has_key k (put_val v vals)) s) (λ s. either_right (bytes_eq w.key k) (has_key k (put_val v vals)) (more s))
+    by Less e more = or_right (bytes_eq v.key k) (has_key k (w ∷ vals)) h
+    by Equal e more = either_true (bytes_eq w.key k) (has_key k vals) h (λ s. or_left (bytes_eq v.key k) (has_key k vals) (ap (λ x. bytes_eq x k) (bytes_exact v.key w.key e) ∙ s)) (λ s. or_right (bytes_eq v.key k) (has_key k vals) s)
+    by Greater e more = either_true (bytes_eq w.key k) (has_key k vals) h (λ s. or_left (bytes_eq w.key k) (has_key k (put_val v vals)) s) (λ s. or_right (bytes_eq w.key k) (has_key k (put_val v vals)) (more s))
 
 key_put : (v : Val) (vals : List Val) → has_key v.key (put_val v vals) ≡ true
-key_put v [] = either_left (bytes_eq v.key v.key) false (equal_key v.key v.key refl)
+key_put v [] = or_left (bytes_eq v.key v.key) false (equal_key v.key v.key refl)
 key_put v (w ∷ vals) = by (bytes_cmp v.key w.key) (key_put v vals)
   where
     own : bytes_eq v.key v.key ≡ true
     own = equal_key v.key v.key refl
 
     by : (o : Ordering) → has_key v.key (put_val v vals) ≡ true → has_key v.key (by_order o (v ∷ w ∷ vals) (v ∷ vals) (w ∷ put_val v vals)) ≡ true
-    by Less more = either_left (bytes_eq v.key v.key) (has_key v.key (w ∷ vals)) own
-    by Equal more = either_left (bytes_eq v.key v.key) (has_key v.key vals) own
-    by Greater more = either_right (bytes_eq w.key v.key) (has_key v.key (put_val v vals)) more
+    by Less more = or_left (bytes_eq v.key v.key) (has_key v.key (w ∷ vals)) own
+    by Equal more = or_left (bytes_eq v.key v.key) (has_key v.key vals) own
+    by Greater more = or_right (bytes_eq w.key v.key) (has_key v.key (put_val v vals)) more
 
 key_of_both : (k : List ℕ) (xs ys : List Val) → has_key k (xs ++ ys) ≡ (has_key k xs || has_key k ys)
 key_of_both k [] ys = refl
@@ -73,37 +63,37 @@ value_stays a attr vals [] more h = absurd (not_both false h refl)
 value_stays a attr vals (b ∷ attrs) more h = by (bytes_cmp attr.name b.attr.name) refl (value_stays a attr vals attrs rest)
   where
     rest : (k : List ℕ) → has_key k (vals_at attr.name attrs) ≡ true → has_key k vals ≡ true
-    rest k g = more k (key_of_both k (cond (bytes_eq b.attr.name attr.name) b.vals []) (vals_at attr.name attrs) ∙ either_right (has_key k (cond (bytes_eq b.attr.name attr.name) b.vals [])) (has_key k (vals_at attr.name attrs)) g)
+    rest k g = more k (key_of_both k (cond (bytes_eq b.attr.name attr.name) b.vals []) (vals_at attr.name attrs) ∙ or_right (has_key k (cond (bytes_eq b.attr.name attr.name) b.vals [])) (has_key k (vals_at attr.name attrs)) g)
 
     replaced : attr.name ≡ b.attr.name → is_here a b ≡ true → is_here a (record { attr = attr; vals = vals }) ≡ true
     replaced e s =
         let s' = both_true (bytes_eq b.attr.name a.attr.name) (has_key a.val.key b.vals) s in
         let own : bytes_eq b.attr.name attr.name ≡ true = equal_key b.attr.name attr.name (sym e) in
-        let kept : has_key a.val.key vals ≡ true = more a.val.key (ap (λ t. has_key a.val.key (cond t b.vals [] ++ vals_at attr.name attrs)) own ∙ key_of_both a.val.key b.vals (vals_at attr.name attrs) ∙ either_left (has_key a.val.key b.vals) (has_key a.val.key (vals_at attr.name attrs)) s'.1) in
+        let kept : has_key a.val.key vals ≡ true = more a.val.key (ap (λ t. has_key a.val.key (cond t b.vals [] ++ vals_at attr.name attrs)) own ∙ key_of_both a.val.key b.vals (vals_at attr.name attrs) ∙ or_left (has_key a.val.key b.vals) (has_key a.val.key (vals_at attr.name attrs)) s'.1) in
         ap (λ n. bytes_eq n a.attr.name && has_key a.val.key vals) e ∙ ap (λ t. t && has_key a.val.key vals) s'.0 ∙ kept
 
     by : (o : Ordering) → bytes_cmp attr.name b.attr.name ≡ o → (has_value attrs a ≡ true → has_value (put_attr (record { attr = attr; vals = vals }) attrs) a ≡ true) → has_value (by_order o (record { attr = attr; vals = vals } ∷ b ∷ attrs) (record { attr = attr; vals = vals } ∷ attrs) (b ∷ put_attr (record { attr = attr; vals = vals }) attrs)) a ≡ true
-    by Less e later = either_right (is_here a (record { attr = attr; vals = vals })) (has_value (b ∷ attrs) a) h
+    by Less e later = or_right (is_here a (record { attr = attr; vals = vals })) (has_value (b ∷ attrs) a) h
     by Equal e later =
-        split_either (is_here a b) (has_value attrs a) h
-        (λ s. either_left (is_here a (record { attr = attr; vals = vals })) (has_value attrs a) (replaced (bytes_exact attr.name b.attr.name e) s))
-        (λ s. either_right (is_here a (record { attr = attr; vals = vals })) (has_value attrs a) s)
+        either_true (is_here a b) (has_value attrs a) h
+        (λ s. or_left (is_here a (record { attr = attr; vals = vals })) (has_value attrs a) (replaced (bytes_exact attr.name b.attr.name e) s))
+        (λ s. or_right (is_here a (record { attr = attr; vals = vals })) (has_value attrs a) s)
     by Greater e later =
-        split_either (is_here a b) (has_value attrs a) h
-        (λ s. either_left (is_here a b) (has_value (put_attr (record { attr = attr; vals = vals }) attrs) a) s)
-        (λ s. either_right (is_here a b) (has_value (put_attr (record { attr = attr; vals = vals }) attrs) a) (later s))
+        either_true (is_here a b) (has_value attrs a) h
+        (λ s. or_left (is_here a b) (has_value (put_attr (record { attr = attr; vals = vals }) attrs) a) s)
+        (λ s. or_right (is_here a b) (has_value (put_attr (record { attr = attr; vals = vals }) attrs) a) (later s))
 
 value_put : (a : Ava) (vals : List Val) (attrs : List Attr) → has_key a.val.key vals ≡ true → has_value (put_attr (record { attr = a.attr; vals = vals }) attrs) a ≡ true
-value_put a vals [] h = either_left (is_here a (record { attr = a.attr; vals = vals })) false (ap (λ t. t && has_key a.val.key vals) (equal_key a.attr.name a.attr.name refl) ∙ h)
+value_put a vals [] h = or_left (is_here a (record { attr = a.attr; vals = vals })) false (ap (λ t. t && has_key a.val.key vals) (equal_key a.attr.name a.attr.name refl) ∙ h)
 value_put a vals (b ∷ attrs) h = by (bytes_cmp a.attr.name b.attr.name) (value_put a vals attrs h)
   where
     own : is_here a (record { attr = a.attr; vals = vals }) ≡ true
     own = ap (λ t. t && has_key a.val.key vals) (equal_key a.attr.name a.attr.name refl) ∙ h
 
     by : (o : Ordering) → has_value (put_attr (record { attr = a.attr; vals = vals }) attrs) a ≡ true → has_value (by_order o (record { attr = a.attr; vals = vals } ∷ b ∷ attrs) (record { attr = a.attr; vals = vals } ∷ attrs) (b ∷ put_attr (record { attr = a.attr; vals = vals }) attrs)) a ≡ true
-    by Less more = either_left (is_here a (record { attr = a.attr; vals = vals })) (has_value (b ∷ attrs) a) own
-    by Equal more = either_left (is_here a (record { attr = a.attr; vals = vals })) (has_value attrs a) own
-    by Greater more = either_right (is_here a b) (has_value (put_attr (record { attr = a.attr; vals = vals }) attrs) a) more
+    by Less more = or_left (is_here a (record { attr = a.attr; vals = vals })) (has_value (b ∷ attrs) a) own
+    by Equal more = or_left (is_here a (record { attr = a.attr; vals = vals })) (has_value attrs a) own
+    by Greater more = or_right (is_here a b) (has_value (put_attr (record { attr = a.attr; vals = vals }) attrs) a) more
 
 -- ---- one part of the name
 
@@ -124,9 +114,9 @@ part_keeps attrs b a h = by (has_value attrs b)
 name_known : (attrs : List Attr) (a : Ava) → has_value attrs a ≡ true → list_any (bytes_eq a.attr.name) (map attr_name attrs) ≡ true
 name_known [] a h = absurd (not_both false h refl)
 name_known (b ∷ attrs) a h =
-    split_either (is_here a b) (has_value attrs a) h
-    (λ s. either_left (bytes_eq a.attr.name b.attr.name) (list_any (bytes_eq a.attr.name) (map attr_name attrs)) (equal_key a.attr.name b.attr.name (sym (is_same b.attr.name a.attr.name (both_true (bytes_eq b.attr.name a.attr.name) (has_key a.val.key b.vals) s).0))))
-    (λ s. either_right (bytes_eq a.attr.name b.attr.name) (list_any (bytes_eq a.attr.name) (map attr_name attrs)) (name_known attrs a s))
+    either_true (is_here a b) (has_value attrs a) h
+    (λ s. or_left (bytes_eq a.attr.name b.attr.name) (list_any (bytes_eq a.attr.name) (map attr_name attrs)) (equal_key a.attr.name b.attr.name (sym (is_same b.attr.name a.attr.name (both_true (bytes_eq b.attr.name a.attr.name) (has_key a.val.key b.vals) s).0))))
+    (λ s. or_right (bytes_eq a.attr.name b.attr.name) (list_any (bytes_eq a.attr.name) (map attr_name attrs)) (name_known attrs a s))
 
 -- one name more, which is there, changes nothing
 known_read : (names : List (List ℕ)) (attrs : List Attr) (name : List ℕ) → AreRead names attrs → list_any (bytes_eq name) (map attr_name attrs) ≡ true → AreRead (names ++ name ∷ []) attrs

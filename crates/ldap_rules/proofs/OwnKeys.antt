@@ -27,7 +27,7 @@ use Rattle.ldap_rules.specs.Ordered.{val_key, attr_name}
 use Rattle.ldap_rules.specs.Carried.{IsOwnName, AreOwnVals}
 use Rattle.ldap_rules.proofs.Chains.{by_pass, by_fit, same_ok}
 use Rattle.ldap_rules.proofs.Places.{all_put}
-use Rattle.ldap_rules.proofs.OwnNames.{all_append}
+use Rattle.repl_data.proofs.Loops.{all_append}
 
 -- a value of this attribute that is accepted, with the key of its spelling
 abbrev pub IsOwnVal : AttrKey → Val → Type 0

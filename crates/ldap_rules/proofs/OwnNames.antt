@@ -6,6 +6,7 @@ use Rattle.std.specs.declared.cmp.Ordering.{Ordering}
 use Rattle.std.specs.declared.cmp.Ordering.TheVariants.{Less, Equal, Greater}
 use Rattle.std.specs.Ordering.{is_eq}
 use Rattle.std.proofs.lemmas.Cmp.{tied_itself}
+use Rattle.std.proofs.lemmas.Bool.{or_right}
 use Rattle.repl_data.specs.declared.csn.Csn.{Csn}
 use Rattle.repl_data.specs.declared.csn.Uid.{Uid}
 use Rattle.repl_data.specs.declared.change.Attr.{Attr}
@@ -22,6 +23,7 @@ use Rattle.repl_data.specs.View.{DirectoryView, PresentEntry, Tombstone, present
 use Rattle.repl_data.proofs.Orders.{uid_total, uid_exact}
 use Rattle.repl_data.proofs.CsnTests.{csn_lt-zero}
 use Rattle.repl_data.proofs.InOrder.{either_true, is_equal}
+use Rattle.repl_data.proofs.Loops.{all_append, all_map}
 use Rattle.repl_data.proofs.Sound.{not_both}
 
 -- ---- all items of a list
@@ -29,14 +31,6 @@ use Rattle.repl_data.proofs.Sound.{not_both}
 pub all_mono : {X : Type 0} (P Q : X → Type 0) → ((x : X) → P x → Q x) → (xs : List X) → AllByRecursion P xs → AllByRecursion Q xs
 all_mono P Q f [] h = tt
 all_mono P Q f (x ∷ xs) h = (f x h.0, all_mono P Q f xs h.1)
-
-pub all_map : {X Y : Type 0} (P : Y → Type 0) (f : X → Y) (xs : List X) → AllByRecursion (λ x. P (f x)) xs → AllByRecursion P (map f xs)
-all_map P f [] h = tt
-all_map P f (x ∷ xs) h = (h.0, all_map P f xs h.1)
-
-pub all_append : {X : Type 0} (P : X → Type 0) (xs ys : List X) → AllByRecursion P xs → AllByRecursion P ys → AllByRecursion P (xs ++ ys)
-all_append P [] ys h g = g
-all_append P (x ∷ xs) ys h g = (h.0, all_append P xs ys h.1 g)
 
 pub all_filter : {X : Type 0} (P : X → Type 0) (q : X → Bool) (xs : List X) → AllByRecursion P xs → AllByRecursion P (filter q xs)
 all_filter P q [] h = tt
@@ -59,15 +53,11 @@ pub all_in_order : (P : Uid → Type 0) (us : List Uid) → AllByRecursion P us 
 all_in_order P [] h = tt
 all_in_order P (u ∷ us) h = all_put P u (in_order uid_cmp us) h.0 (all_in_order P us h.1)
 
-either_right : (a b : Bool) → b ≡ true → (a || b) ≡ true
-either_right true b h = refl
-either_right false b h = h
-
 each_is_there : (us : List Uid) → AllByRecursion (λ u. list_any (uid_eq u) us ≡ true) us
 each_is_there [] = tt
 each_is_there (w ∷ us) = (
   ap (λ o. is_eq o || list_any (uid_eq w) us) (tied_itself uid_total w),
-  all_mono (λ u. list_any (uid_eq u) us ≡ true) (λ u. list_any (uid_eq u) (w ∷ us) ≡ true) (λ u h. either_right (uid_eq u w) (list_any (uid_eq u) us) h) us (each_is_there us),
+  all_mono (λ u. list_any (uid_eq u) us ≡ true) (λ u. list_any (uid_eq u) (w ∷ us) ≡ true) (λ u h. or_right (uid_eq u w) (list_any (uid_eq u) us) h) us (each_is_there us),
 )
 
 -- what holds of the suffix entry's id and of each id that was added holds of all that are known
@@ -110,7 +100,7 @@ own_names-such P (x ∷ xs) u h = by (uid_eq x.target u) (own_names-such P xs u 
     by true g = all_append (λ (p : Csn × Rdn). P p.1) (names_given x.csn x.body) (own_names xs u) h.0 g
     by false g = g
 
-not_nothing : {X : Type 0} (x : X) (xs : List X) → x ∷ xs ≡ [] → ⊥
+pub not_nothing : {X : Type 0} (x : X) (xs : List X) → x ∷ xs ≡ [] → ⊥
 not_nothing x xs e = cc
 
 behind_some : {X : Type 0} (ps qs : List X) → (qs ≡ [] → ⊥) → ps ++ qs ≡ [] → ⊥

@@ -37,7 +37,8 @@ use Rattle.repl_data.proofs.Raised.{same_attr}
 use Rattle.repl_data.proofs.Sound.{not_both, both_true, not_false, no_faults, no_fault, sound_rid}
 use Rattle.repl_data.proofs.Steps.{flat_map-append, filter-append}
 use Rattle.ldap_rules.specs.Rename.{own_values}
-use Rattle.ldap_rules.proofs.OwnNames.{all_mono, all_map, all_append, all_filter, Names, own_names, picked, picked_some, added_named, known_such, present_such}
+use Rattle.repl_data.proofs.Loops.{all_append, all_map}
+use Rattle.ldap_rules.proofs.OwnNames.{all_mono, all_filter, Names, own_names, picked, picked_some, added_named, known_such, present_such, not_nothing}
 
 -- ---- acts
 
@@ -119,15 +120,12 @@ before_none : {X : Type 0} (xs ys : List X) → xs ++ ys ≡ [] → xs ≡ []
 before_none [] ys e = refl
 before_none (x ∷ xs) ys e = let n : ⊥ = cc in absurd n
 
-some_not_none : {X : Type 0} (x : X) (xs : List X) → x ∷ xs ≡ [] → ⊥
-some_not_none x xs e = cc
-
 abbrev IsNamed : List Act → List ℕ → Type 0
 IsNamed os k = added k os ≡ [] → csn_lt zero_csn (greatest (deleted k os)) ≡ true
 
 named_here : (a : Act) (os : List Act) → IsLate a → AllByRecursion (IsNamed (a ∷ os)) (keys_named a)
 named_here (Adds s t v) os h =
-    ((λ e. absurd (some_not_none (s, v.spelled) (added v.key os) (sym (ap (λ (b : Bool). (if b then (s, v.spelled) ∷ [] else []) ++ added v.key os) (same_key v.key v.key refl)) ∙ e))), tt)
+    ((λ e. absurd (not_nothing (s, v.spelled) (added v.key os) (sym (ap (λ (b : Bool). (if b then (s, v.spelled) ∷ [] else []) ++ added v.key os) (same_key v.key v.key refl)) ∙ e))), tt)
 named_here (Deletes s t v) os h =
     ((λ e. subst (λ (b : Bool). csn_lt zero_csn (greatest ((if b then s ∷ [] else []) ++ deleted v.key os)) ≡ true) (sym (same_key v.key v.key refl)) (first_max s (greatest (deleted v.key os)) h)), tt)
 named_here (Clears s t) os h = tt
@@ -233,7 +231,7 @@ is_added : (s : Csn) (t : AttrKey) (v : Val) (rest : List Act) (a : Ava) → byt
 is_added s t v rest a same key e =
     let attr : bytes_eq a.attr.name t.name ≡ true = same_key a.attr.name t.name (sym (is_same t.name a.attr.name same)) in
     let own : bytes_eq a.val.key v.key ≡ true = same_key a.val.key v.key (sym (is_same v.key a.val.key key)) in
-    some_not_none (s, v.spelled) (added a.val.key (on a.attr rest))
+    not_nothing (s, v.spelled) (added a.val.key (on a.attr rest))
     (sym ((λ i. added a.val.key (cond (attr i) (Adds s t v ∷ on a.attr rest) (on a.attr rest))) ∙ ap (λ (b : Bool). (if b then (s, v.spelled) ∷ [] else []) ++ added a.val.key (on a.attr rest)) own) ∙ e)
 
 one_attr : (s : Csn) (t : AttrKey) (vals : List Val) (rest : List Act) (a : Ava) → bytes_eq t.name a.attr.name ≡ true → list_any (λ (v : Val). bytes_eq v.key a.val.key) vals ≡ true → IsAdded (adds s t vals ++ rest) a

@@ -8,7 +8,7 @@ use Rattle.repl_data.specs.declared.change.Ava.{Ava}
 use Rattle.repl_data.specs.declared.change.Rdn.{Rdn}
 use Rattle.repl_data.specs.Order.{rdn_key, rdn_key_cmp}
 use Rattle.repl_data.proofs.Loops.{slice_cmp_map}
-use Rattle.ldap_rules.specs.Names.{same_keys}
+use Rattle.dn_text.specs.Names.{same_keys}
 
 pub compared_keys : (a b : List Rdn) → is_eq (slice_cmp (λ (x : Rdn) (y : Rdn). rdn_key_cmp (rdn_key x) (rdn_key y)) a b) ≡ same_keys a b
 compared_keys a b = ap is_eq (sym (slice_cmp_map rdn_key rdn_key_cmp a b))

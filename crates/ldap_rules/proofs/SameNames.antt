@@ -14,9 +14,9 @@ use Rattle.dn_text.specs.declared.name.Dn.{Dn}
 use Rattle.dn_text.specs.declared.fault.DnFault.{DnFault}
 use Rattle.dn_text.specs.Below.{keys_of}
 use Rattle.dn_text.specs.Reading.{dn_in}
-use Rattle.ldap_rules.specs.declared.walk.Place.{Place}
-use Rattle.ldap_rules.specs.declared.walk.Place.TheVariants.{There, Nearest}
-use Rattle.ldap_rules.specs.Names.{count_above, rdns_above, below, place_of}
+use Rattle.dn_text.specs.declared.place.Place.{Place}
+use Rattle.dn_text.specs.declared.place.Place.TheVariants.{There, Nearest}
+use Rattle.dn_text.specs.Names.{count_above, rdns_above, below, place_of}
 use Rattle.ldap_rules.specs.SameNames.{place_of_name, contenders_for}
 
 pub same_contenders : (present : List EntryFacts) (parent : Uid) (a b : Rdn) → rdn_key a ≡ rdn_key b → contenders_for present parent a ≡ contenders_for present parent b

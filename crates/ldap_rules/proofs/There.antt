@@ -12,22 +12,16 @@ use Rattle.repl_data.specs.Closed.{is_known}
 use Rattle.repl_data.proofs.Orders.{uid_total}
 use Rattle.std.proofs.lemmas.Cmp.{tied_itself}
 use Rattle.std.specs.Ordering.{is_eq}
+use Rattle.std.proofs.lemmas.Bool.{or_left, or_right}
 use Rattle.repl_data.proofs.Known.{known_by_view}
 use Rattle.repl_data.specs.Facts.{added_ids}
-use Rattle.ldap_rules.specs.declared.walk.Place.{Place}
-use Rattle.ldap_rules.specs.declared.walk.Place.TheVariants.{There, Nearest}
-use Rattle.ldap_rules.specs.Names.{below, place_of, found, entry_at}
+use Rattle.dn_text.specs.declared.place.Place.{Place}
+use Rattle.dn_text.specs.declared.place.Place.TheVariants.{There, Nearest}
+use Rattle.dn_text.specs.Names.{below, place_of, found, entry_at}
 use Rattle.ldap_rules.specs.Laws.{has_entry}
 
 same_id : (u : Uid) → uid_eq u u ≡ true
 same_id u = ap is_eq (tied_itself uid_total u)
-
-either_left : (a b : Bool) → a ≡ true → (a || b) ≡ true
-either_left a b h = ap (λ x. x || b) h
-
-either_right : (a b : Bool) → b ≡ true → (a || b) ≡ true
-either_right true b h = refl
-either_right false b h = h
 
 -- what is found in a part of a list is there
 found_there : (p q : PresentEntry → Bool) (es : List PresentEntry) (u : Uid) → option_map (λ (e : PresentEntry). e.id) (find p (filter q es)) ≡ Some u → is_some (find (λ (e : PresentEntry). uid_eq e.id u) es) ≡ true
@@ -68,13 +62,13 @@ step_there v rdn u (There w) h = by (child_of v w rdn) refl h
     by None e g = let n : ⊥ = cc in absurd n
     by (Some child) e g =
         let at : child ≡ u = cc in
-        either_right (uid_eq u suffix_id) (is_some (present_at v u)) (child_there v w u rdn (e ∙ ap Some at))
+        or_right (uid_eq u suffix_id) (is_some (present_at v u)) (child_there v w u rdn (e ∙ ap Some at))
 
 place_there : (v : DirectoryView) (rdns : List Rdn) (u : Uid) → place_of v rdns ≡ There u → has_entry v u ≡ true
 unfolding place_of
 place_there v [] u h =
     let e : suffix_id ≡ u = cc in
-    either_left (uid_eq u suffix_id) (is_some (present_at v u)) (ap (λ w. uid_eq w suffix_id) (sym e) ∙ same_id suffix_id)
+    or_left (uid_eq u suffix_id) (is_some (present_at v u)) (ap (λ w. uid_eq w suffix_id) (sym e) ∙ same_id suffix_id)
 place_there v (rdn ∷ above) u h = step_there v rdn u (place_of v above) h
 
 pub entry_there : (v : DirectoryView) (rdns : List Rdn) (u : Uid) → entry_at v rdns ≡ Ok u → has_entry v u ≡ true
@@ -84,7 +78,7 @@ entry_there v rdns u h = by (place_of v rdns) refl h
     by (There w) e g = let at : w ≡ u = cc in place_there v rdns u (e ∙ ap There at)
     by (Nearest w) e g = let n : ⊥ = cc in absurd n
 
-some_any : (q : PresentEntry → Bool) (es : List PresentEntry) → is_some (find q es) ≡ list_any q es
+pub some_any : (q : PresentEntry → Bool) (es : List PresentEntry) → is_some (find q es) ≡ list_any q es
 some_any q [] = refl
 some_any q (e ∷ es) = by (q e) (some_any q es)
   where
@@ -96,8 +90,8 @@ pub entry_known : (suffix : Suffix) (changes : List Change) (u : Uid) → has_en
 entry_known suffix changes u h = by (uid_eq u suffix_id) refl h
   where
     by : (b : Bool) → uid_eq u suffix_id ≡ b → (b || is_some (present_at (view_of suffix changes) u)) ≡ true → is_known changes u ≡ true
-    by true e g = either_left (uid_eq u suffix_id) (list_any (uid_eq u) (added_ids changes)) e
+    by true e g = or_left (uid_eq u suffix_id) (list_any (uid_eq u) (added_ids changes)) e
     by false e g =
         sym (known_by_view suffix changes u)
-        ∙ either_left (list_any (λ (e : PresentEntry). uid_eq e.id u) (view_of suffix changes).present) (list_any (λ (e : Tombstone). uid_eq e.id u) (view_of suffix changes).gone)
+        ∙ or_left (list_any (λ (e : PresentEntry). uid_eq e.id u) (view_of suffix changes).present) (list_any (λ (e : Tombstone). uid_eq e.id u) (view_of suffix changes).gone)
         (sym (some_any (λ (e : PresentEntry). uid_eq e.id u) (view_of suffix changes).present) ∙ g)

@@ -16,15 +16,15 @@ use Rattle.dn_text.specs.declared.fault.DnFault.{DnFault}
 use Rattle.dn_text.specs.Reading.{dn_in}
 use Rattle.ldap_types.specs.declared.request.Control.{Control}
 use Rattle.ldap_types.specs.declared.reply.LdapResult.{LdapResult}
-use Rattle.ldap_rules.specs.declared.walk.Place.{Place}
-use Rattle.ldap_rules.specs.declared.walk.Place.TheVariants.{There, Nearest}
+use Rattle.dn_text.specs.declared.place.Place.{Place}
+use Rattle.dn_text.specs.declared.place.Place.TheVariants.{There, Nearest}
 use Rattle.rule_values.specs.declared.fault.Refusal.{Refusal}
 use Rattle.rule_values.specs.declared.fault.Refusal.TheVariants as why
 use Rattle.rule_values.specs.Codes.{code_of}
 use Rattle.ldap_rules.specs.Case.{◌>>=◌, result_of, no_such_object, refuse, refuse_if, coded}
-use Rattle.ldap_rules.specs.Names.{rdns_above, shown_name, found, place_of, entry_at}
+use Rattle.dn_text.specs.Names.{rdns_above, shown_name, found, place_of, entry_at}
 use Rattle.rule_values.specs.Listed.{read_name, read_value}
-use Rattle.ldap_rules.specs.Writes.{read_object, within}
+use Rattle.dn_text.specs.Names.{read_object, within}
 use Rattle.ldap_types.specs.declared.request.RawMod.{RawMod}
 use Rattle.rule_values.specs.Modify.{modifications}
 use Rattle.ldap_rules.specs.Modify.{own_name, modify_made}

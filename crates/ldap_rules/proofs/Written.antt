@@ -20,10 +20,10 @@ use Rattle.ldap_types.specs.declared.request.RawAttr.{RawAttr}
 use Rattle.ldap_types.specs.declared.reply.Identity.{Identity}
 use Rattle.ldap_types.specs.declared.reply.LdapResult.{LdapResult}
 use Rattle.ldap_rules.specs.Case.{◌>>=◌, coded}
-use Rattle.ldap_rules.specs.Names.{rdns_above, count_above, entry_at}
+use Rattle.dn_text.specs.Names.{rdns_above, count_above, entry_at, read_object, within}
 use Rattle.rule_values.specs.declared.fault.Refusal.TheVariants as why
 use Rattle.rule_values.specs.Listed.{named_keys, attribute_count, attributes_beside, with_name, has_too_many_values, is_class, entry_attributes}
-use Rattle.ldap_rules.specs.Writes.{is_unknown, is_update_control, is_manager, is_supplier, read_object, within, all_writes, not_too_heavy}
+use Rattle.ldap_rules.specs.Writes.{is_unknown, is_update_control, is_manager, is_supplier, all_writes, not_too_heavy}
 use Rattle.ldap_rules.specs.Add.{add_body, add_verdict}
 use Rattle.ldap_rules.specs.Verdict.{Writes, adds}
 use Rattle.ldap_rules.specs.Laws.{change_at, needed_at, IsDrawnAbove, has_entry}
@@ -33,7 +33,7 @@ use Rattle.ldap_rules.proofs.Checked.{add_sound}
 use Rattle.ldap_rules.specs.Carried.{CarriesKeys}
 use Rattle.ldap_rules.proofs.There.{entry_there}
 use Rattle.ldap_rules.proofs.OwnKeys.{HasOwnVals, attributes_own, parts_own}
-use Rattle.ldap_rules.proofs.Changed.{each_readable}
+use Rattle.ldap_rules.proofs.Changed.{each_readable, read_as}
 
 -- an add of this name and these attributes makes this body
 pub record IsWritten (v : DirectoryView) (object : List ℕ) (given : List RawAttr) (body : Body) : Type 0 where
@@ -73,10 +73,6 @@ first_taken : (count : ℕ) (rdns : List Rdn) (rdn : Rdn) (above : List Rdn) →
 first_taken zero rdns rdn above h = let n : ⊥ = cc in absurd n
 first_taken (suc count) [] rdn above h = let n : ⊥ = cc in absurd n
 first_taken (suc count) (r ∷ rdns) rdn above h = let e : r ≡ rdn = cc in record { rest = rdns; is = ap (λ x. x ∷ rdns) e }
-
-read_as : (r : Result Dn DnFault) (name : Dn) → read_object r ≡ Ok name → r ≡ Ok name
-read_as (Ok dn) name h = let e : dn ≡ name = cc in ap Ok e
-read_as (Err e) name h = let n : ⊥ = cc in absurd n
 
 -- the attributes of an add that are written: as many as there may be, as they are listed, with the values of the name
 pub record IsListed (rdn : Rdn) (given : List RawAttr) (made : List Attr) : Type 0 where

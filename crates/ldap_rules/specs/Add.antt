@@ -12,7 +12,7 @@ use Rattle.ldap_types.specs.declared.reply.Identity.{Identity}
 use Rattle.ldap_types.specs.declared.reply.LdapResult.{LdapResult}
 use Rattle.rule_values.specs.Listed.{entry_attributes}
 use Rattle.ldap_rules.specs.Case.{◌>>=◌, refuse, refuse_if, coded}
-use Rattle.ldap_rules.specs.Names.{entry_at}
+use Rattle.dn_text.specs.Names.{entry_at}
 use Rattle.ldap_rules.specs.Writes.{all_writes, not_too_heavy}
 
 -- the cases, in their order

@@ -10,7 +10,7 @@ use Rattle.ldap_types.specs.declared.request.BindRequest.{BindRequest}
 use Rattle.ldap_types.specs.declared.request.Auth.{Auth}
 use Rattle.ldap_types.specs.declared.request.Auth.TheVariants.{Simple, Sasl}
 use Rattle.ldap_rules.specs.Case.{result_of}
-use Rattle.ldap_rules.specs.Names.{is_readable, is_named}
+use Rattle.dn_text.specs.Names.{is_readable, is_named}
 
 -- the two names that may bind, and their passwords
 abbrev pub manager_name : List ℕ

@@ -13,8 +13,7 @@ use Rattle.ldap_types.specs.declared.request.Control.{Control}
 use Rattle.ldap_types.specs.declared.reply.LdapResult.{LdapResult}
 use Rattle.rule_values.specs.Listed.{read_name, read_value}
 use Rattle.ldap_rules.specs.Case.{◌>>=◌, result_of, refuse, refuse_if, coded}
-use Rattle.ldap_rules.specs.Names.{rdns_above, entry_at}
-use Rattle.ldap_rules.specs.Writes.{read_object, within}
+use Rattle.dn_text.specs.Names.{rdns_above, entry_at, read_object, within}
 
 -- ---- an entry as it shows, by the keys of its values: those of an attribute, where it has that attribute
 

@@ -10,7 +10,7 @@ use Rattle.ldap_types.specs.declared.request.Control.{Control}
 use Rattle.ldap_types.specs.declared.reply.Identity.{Identity}
 use Rattle.ldap_types.specs.declared.reply.LdapResult.{LdapResult}
 use Rattle.ldap_rules.specs.Case.{◌>>=◌, refuse_if}
-use Rattle.ldap_rules.specs.Names.{entry_at}
+use Rattle.dn_text.specs.Names.{entry_at}
 use Rattle.ldap_rules.specs.Writes.{all_writes, light_change}
 
 -- the cases, in their order: the entry that is to go, by the RDNs of its name above the suffix

@@ -1,6 +1,5 @@
 pub mod Case
 pub mod Bind
-pub mod Names
 pub mod Ordered
 pub mod Writes
 pub mod Add

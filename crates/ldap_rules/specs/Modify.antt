@@ -11,7 +11,7 @@ use Rattle.ldap_types.specs.declared.reply.Identity.{Identity}
 use Rattle.ldap_types.specs.declared.reply.LdapResult.{LdapResult}
 use Rattle.rule_values.specs.Modify.{modifications}
 use Rattle.ldap_rules.specs.Case.{◌>>=◌, coded}
-use Rattle.ldap_rules.specs.Names.{entry_at}
+use Rattle.dn_text.specs.Names.{entry_at}
 use Rattle.ldap_rules.specs.Rename.{parts, own_values}
 use Rattle.ldap_rules.specs.Writes.{all_writes, light_change}
 

@@ -20,8 +20,8 @@ use Rattle.ldap_types.specs.declared.request.Control.{Control}
 use Rattle.ldap_types.specs.declared.reply.Identity.{Identity}
 use Rattle.ldap_types.specs.declared.reply.LdapResult.{LdapResult}
 use Rattle.ldap_rules.specs.Case.{◌>>=◌, refuse, refuse_if}
-use Rattle.ldap_rules.specs.Names.{same_keys, rdns_above, entry_at}
-use Rattle.ldap_rules.specs.Writes.{read_object, all_writes, light_change}
+use Rattle.dn_text.specs.Names.{same_keys, rdns_above, entry_at, read_object}
+use Rattle.ldap_rules.specs.Writes.{all_writes, light_change}
 
 -- ---- the new name
 

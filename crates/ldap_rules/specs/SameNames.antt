@@ -8,8 +8,8 @@ use Rattle.repl_data.specs.Presence.{is_child}
 use Rattle.repl_data.specs.View.{DirectoryView}
 use Rattle.dn_text.specs.declared.name.Dn.{Dn}
 use Rattle.dn_text.specs.Reading.{dn_in}
-use Rattle.ldap_rules.specs.declared.walk.Place.{Place}
-use Rattle.ldap_rules.specs.Names.{rdns_above, place_of}
+use Rattle.dn_text.specs.declared.place.Place.{Place}
+use Rattle.dn_text.specs.Names.{rdns_above, place_of}
 
 -- where a name leads in a view, if it is the suffix or below it
 abbrev pub place_of_name : DirectoryView → Dn → Option Place

@@ -10,8 +10,8 @@ use Rattle.ldap_types.specs.declared.request.Op.TheVariants.{Add as AddEntry, Mo
 use Rattle.ldap_types.specs.declared.request.Request.{Request}
 use Rattle.ldap_types.specs.declared.reply.Identity.{Identity}
 use Rattle.ldap_types.specs.declared.reply.LdapResult.{LdapResult}
-use Rattle.ldap_rules.specs.declared.fault.JudgeFault.{JudgeFault}
-use Rattle.ldap_rules.specs.declared.fault.JudgeFault.TheVariants.{NoMemory, Refused}
+use Rattle.dn_text.specs.declared.fault.JudgeFault.{JudgeFault}
+use Rattle.dn_text.specs.declared.fault.JudgeFault.TheVariants.{NoMemory, Refused}
 use Rattle.ldap_rules.specs.declared.fault.Judged.{Judged}
 use Rattle.ldap_rules.specs.declared.fault.Judged.TheVariants.{Write, Answer}
 use Rattle.ldap_rules.specs.Case.{refuse}

@@ -5,7 +5,7 @@ use Rattle.repl_data.specs.declared.csn.Uid.{Uid}
 use Rattle.repl_data.specs.declared.change.Rdn.{Rdn}
 use Rattle.repl_data.specs.declared.change.Body.{Body}
 use Rattle.repl_data.specs.Order.{bytes_eq}
-use Rattle.repl_data.specs.Check.{weight}
+use Rattle.repl_data.specs.Check.{greatest_weight, weight}
 use Rattle.ldap_types.specs.declared.request.Control.{Control}
 use Rattle.ldap_types.specs.declared.reply.Identity.{Identity}
 use Rattle.ldap_types.specs.declared.reply.Identity.TheVariants.{Manager, Supplier}
@@ -14,7 +14,7 @@ use Rattle.dn_text.specs.declared.name.Dn.{Dn}
 use Rattle.dn_text.specs.declared.fault.DnFault.{DnFault}
 use Rattle.dn_text.specs.Reading.{dn_in}
 use Rattle.ldap_rules.specs.Case.{◌>>=◌, refuse, refuse_if}
-use Rattle.ldap_rules.specs.Names.{rdns_above}
+use Rattle.dn_text.specs.Names.{rdns_above, read_object, within}
 
 -- ---- who asks, and how
 
@@ -35,14 +35,6 @@ is_supplier _ = false
 
 -- ---- the cases, in their order: the RDNs of the name above the suffix, the entry's own first
 
-abbrev pub read_object : Result Dn DnFault → Result Dn LdapResult
-read_object (Ok dn) = Ok dn
-read_object (Err e) = refuse 34
-
-abbrev pub within : Option (List Rdn) → Result (List Rdn) LdapResult
-within (Some rdns) = Ok rdns
-within None = refuse 32
-
 -- the name's RDNs above the suffix, which the text spells
 unfoldable pub all_writes : List ℕ → List Control → Identity → List ℕ → Result (List Rdn) LdapResult
 all_writes suffix controls bound object =
@@ -55,7 +47,7 @@ all_writes suffix controls bound object =
 -- ---- last for every write
 
 abbrev pub not_too_heavy : Body → Result Body LdapResult
-not_too_heavy body = refuse_if (nat_lt 2097152 (weight body)) 11 >>= λ _. Ok body
+not_too_heavy body = refuse_if (nat_lt greatest_weight (weight body)) 11 >>= λ _. Ok body
 
 -- a change of an entry that is there
 abbrev pub light_change : Uid × Body → Result (Uid × Body) LdapResult

@@ -5,12 +5,11 @@ ghost use Rattle.repl_data.specs.View.{child_of};
 ghost use Rattle.ldap_rules.specs.Case.{Gives};
 ghost use Rattle.ldap_rules.specs.Add.{add_body, add_verdict};
 
-use crate::case::{refuse_if, refused};
+use crate::case::refuse_if;
 use crate::derived::has_derived_part;
-use crate::fault::JudgeFault;
 use crate::values::entry_attributes;
-use crate::walk::entry_at;
 use crate::writes::{all_writes, not_too_heavy};
+use dn_text::{JudgeFault, entry_at, refused};
 use ldap_types::{Code, Control, Identity, RawAttr};
 use repl_data::{Body, NoMemory, Rdn, Uid, View};
 use std::alloc::Global;

@@ -5,12 +5,10 @@ ghost use Rattle.std.specs.Ordering.{int_eq};
 ghost use Rattle.dn_text.specs.Reading.{dn_in};
 ghost use Rattle.repl_data.specs.Order.{bytes_eq};
 ghost use Rattle.repl_data.specs.Check.{is_empty};
-ghost use Rattle.ldap_rules.specs.Names.{have_same_keys, is_named};
+ghost use Rattle.dn_text.specs.Names.{have_same_keys, is_named};
 ghost use Rattle.ldap_rules.specs.Bind.{manager_name, manager_password, supplier_name, supplier_password, unbound, bound_as, bind_verdict};
 
-use crate::case::result_of;
-use crate::names::same_keys;
-use dn_text::{Dn, DnFault, read_dn};
+use dn_text::{Dn, DnFault, read_dn, result_of, same_keys};
 use ldap_types::{Auth, BindRequest, Code, Identity, LdapResult, NoMemory};
 use repl_data::same_bytes;
 use std::alloc::Global;

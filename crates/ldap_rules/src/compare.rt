@@ -8,15 +8,12 @@ ghost use Rattle.repl_data.specs.declared.change.Val.{Val};
 ghost use Rattle.repl_data.specs.Order.{bytes_eq};
 ghost use Rattle.dn_text.specs.Reading.{dn_in};
 ghost use Rattle.ldap_rules.specs.Case.{Gives};
-ghost use Rattle.ldap_rules.specs.Names.{rdns_above};
-ghost use Rattle.ldap_rules.specs.Writes.{within};
+ghost use Rattle.dn_text.specs.Names.{rdns_above, within};
 ghost use Rattle.ldap_rules.specs.Compare.{keys_in, shown_at, there, told, compared, is_critical, compare_verdict};
 
-use crate::case::{refuse_if, refused, result_of};
-use crate::fault::JudgeFault;
-use crate::names::{object, rdns_above};
+use crate::case::refuse_if;
 use crate::values::{read_name, read_value};
-use crate::walk::entry_at;
+use dn_text::{JudgeFault, entry_at, object, rdns_above, refused, result_of};
 use ldap_types::{Code, Control, LdapResult};
 use repl_data::{AttrKey, Bytes, NoMemory, Shown, ShownList, Uid, Val, View, same_bytes};
 use std::alloc::Global;
@@ -57,9 +54,10 @@ fn told(alloc: Global, vals: &[Val], key: &Bytes) -> LdapResult
     }
 }
 
-/// Whether what is shown of an entry has the value.
+/// What a compare with an entry that shows these attributes is answered: `compareTrue` where it has the value,
+/// `compareFalse` where it has others, and else a refusal (RFC 4511, section 4.10).
 #[tactic(auto, unfolding(crate::specs::Compare::compared))]
-fn compared(
+pub fn compared(
     alloc: Global,
     shown: &[Shown],
     name: &[u8],

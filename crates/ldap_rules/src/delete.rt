@@ -7,9 +7,8 @@ ghost use Rattle.ldap_rules.specs.Case.{Gives};
 ghost use Rattle.ldap_rules.specs.Delete.{delete_made, delete_verdict};
 
 use crate::case::refuse_if;
-use crate::fault::JudgeFault;
-use crate::walk::entry_at;
 use crate::writes::{all_writes, light_change};
+use dn_text::{JudgeFault, entry_at};
 use ldap_types::{Code, Control, Identity};
 use repl_data::{Body, NoMemory, Rdn, Uid, View};
 use std::alloc::Global;

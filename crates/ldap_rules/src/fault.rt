@@ -1,10 +1,7 @@
-//! What a judgement is: a refusal, or a body to write.
-
-ghost use Rattle.std.specs.Prelude.{◌≡◌};
-ghost use Rattle.ldap_rules.specs.declared.fault.JudgeFault.TheVariants as fault;
+//! What becomes of a request that is not refused.
 
 use ldap_types::LdapResult;
-use repl_data::{Body, NoMemory, Uid};
+use repl_data::{Body, Uid};
 
 /// What becomes of a request that is not refused.
 #[derive(Debug, Drop)]
@@ -13,21 +10,4 @@ pub enum Judged {
     Write { target: Option<Uid>, body: Body },
     /// The answer, of a request that changes nothing.
     Answer(LdapResult),
-}
-
-/// Why a request makes no change.
-#[derive(Debug, Drop)]
-pub enum JudgeFault {
-    /// No memory was left.
-    NoMemory,
-    /// The rules refuse it, with this answer.
-    Refused(LdapResult),
-}
-
-impl From<NoMemory> for JudgeFault {
-    ghost from_gives = { λ _ e. e ≡ fault.NoMemory };
-
-    fn from(_error: NoMemory) -> JudgeFault {
-        JudgeFault::NoMemory
-    }
 }

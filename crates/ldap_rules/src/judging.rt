@@ -5,13 +5,13 @@ ghost use Rattle.std.specs.Option.{option_copied};
 ghost use Rattle.ldap_rules.specs.Verdict.{is_update, is_change, is_judged, verdict_of, IsVerdict};
 
 use crate::add::judge_add;
-use crate::case::refused;
 use crate::compare::judge_compare;
 use crate::delete::judge_delete;
-use crate::fault::{JudgeFault, Judged};
+use crate::fault::Judged;
 use crate::modify::judge_modify;
 use crate::rename::judge_rename;
 use crate::writes::{has_update_control, is_supplier};
+use dn_text::{JudgeFault, refused};
 use ldap_types::{Code, Identity, Op, Request};
 use repl_data::{Bytes, View};
 use std::alloc::Global;

@@ -5,11 +5,10 @@ ghost use Rattle.rule_values.specs.Modify.{modifications};
 ghost use Rattle.ldap_rules.specs.Modify.{own_name, modify_made, modify_verdict};
 ghost use Rattle.ldap_rules.specs.Rename.{own_values};
 
-use crate::fault::JudgeFault;
 use crate::rename::own_values;
 use crate::values::modifications;
-use crate::walk::entry_at;
 use crate::writes::{all_writes, light_change};
+use dn_text::{JudgeFault, entry_at};
 use ldap_types::{Control, Identity, RawMod};
 use repl_data::{AvaList, Body, ModList, Rdn, Uid, View};
 use std::alloc::Global;

@@ -4,8 +4,7 @@ ghost use Rattle.rule_values.specs.Listed.{read_name, read_value, entry_attribut
 ghost use Rattle.rule_values.specs.Modify.{modifications};
 ghost use Rattle.ldap_rules.specs.Case.{Gives, coded};
 
-use crate::case::refused;
-use crate::fault::JudgeFault;
+use dn_text::{JudgeFault, refused};
 use ldap_types::{RawAttr, RawMod};
 use repl_data::{AttrKey, AttrList, ModList, Rdn, Shown, Val};
 use rule_values::ValueFault;

@@ -1,24 +1,19 @@
 //! The cases of all writes, and the last one.
 
 ghost use Rattle.std.specs.Prelude.{◌≡◌, ◌&&◌, not, nat_lt};
-ghost use Rattle.repl_data.specs.Check.{weight};
+ghost use Rattle.repl_data.specs.Check.{greatest_weight, weight};
 ghost use Rattle.std.specs.List.{list_any};
 ghost use Rattle.ldap_rules.specs.Case.{Gives};
 ghost use Rattle.ldap_rules.specs.Writes.{is_update_control, is_unknown, is_manager, is_supplier, all_writes, not_too_heavy, light_change};
 
 use crate::case::refuse_if;
-use crate::fault::JudgeFault;
-use crate::names::{object, rdns_above};
-use dn_text::RdnList;
+use dn_text::{JudgeFault, RdnList, object, rdns_above};
 use ldap_types::{Code, Control, Identity};
-use repl_data::{Body, Uid, same_bytes, weight};
+use repl_data::{Body, GREATEST_WEIGHT, Uid, same_bytes, weight};
 use std::alloc::Global;
 
 /// The control of an update that one server sends to another.
 pub const UPDATE_CONTROL: &[u8] = b"2.999.389.3";
-
-/// The greatest weight of a change.
-const GREATEST_WEIGHT: u128 = 2_097_152;
 
 fn is_update_control(control: &Control) -> bool
     ensures { result ≡ is_update_control control.now }
@@ -97,7 +92,7 @@ pub(crate) fn all_writes(
 }
 
 fn is_too_heavy(body: &Body) -> bool
-    ensures { result ≡ nat_lt 2097152 (weight body.now) }
+    ensures { result ≡ nat_lt greatest_weight (weight body.now) }
 {
     weight(body) > GREATEST_WEIGHT
 }

@@ -8,11 +8,8 @@ use Rattle.repl_data.specs.declared.csn.Csn.{Csn}
 use Rattle.repl_data.specs.declared.change.Change.{Change}
 use Rattle.repl_data.specs.declared.change.Update.{Update}
 use Rattle.vector_core.specs.declared.answers.Applied.TheVariants.{Taken}
-use Rattle.repl_data.specs.Order.{csn_lt, number_of, zero_csn, uid_eq}
-use Rattle.repl_data.specs.declared.csn.Uid.{Uid}
-use Rattle.repl_data.specs.Facts.{added_ids, ids_added}
+use Rattle.repl_data.specs.Order.{csn_lt, number_of, zero_csn}
 use Rattle.repl_data.specs.Closed.{IsArrival}
-use Rattle.std.specs.List.{list_any}
 use Rattle.vector_core.specs.Greatest.{later_of, greatest}
 use Rattle.vector_core.specs.Vector.{HasEntries, IsMerged, IsRaised, entry_of}
 use Rattle.vector_core.proofs.Greatests.{zero_later, greatest-push}
@@ -152,20 +149,6 @@ kept-next n heads new c k next seq rid raised = record {
 }
 
 -- ---- what is known
-
-any_append : (p : Uid → Bool) (us vs : List Uid) → list_any p (us ++ vs) ≡ (list_any p us || list_any p vs)
-any_append p [] vs = refl
-any_append p (u ∷ us) vs = ap (λ b. p u || b) (any_append p us vs) ∙ or-assoc (p u) (list_any p us) (list_any p vs)
-  where
-    or-assoc : (a b c : Bool) → (a || (b || c)) ≡ ((a || b) || c)
-    or-assoc true b c = refl
-    or-assoc false b c = refl
-
-pub added_any : (id : Uid) (changes : List Change) → list_any (uid_eq id) (added_ids changes) ≡ list_any (λ (c : Change). list_any (uid_eq id) (ids_added c.target c.body)) changes
-added_any id [] = refl
-added_any id (c ∷ cs) =
-    any_append (uid_eq id) (ids_added c.target c.body) (added_ids cs)
-    ∙ ap (λ b. list_any (uid_eq id) (ids_added c.target c.body) || b) (added_any id cs)
 
 pub greatest-more : (cs : List Csn) (i : ℕ) → i < length cs → greatest (take (i + 1) cs) ≡ later_of (greatest (take i cs)) (get_or cs i zero_csn)
 greatest-more cs i l = ap greatest (take_more cs i zero_csn l) ∙ greatest-push (take i cs) (get_or cs i zero_csn)

@@ -1,7 +1,8 @@
 -- Which ids are known, by the changes that add them.
 use Rattle.std.proofs.Common.{◌≡◌, ◌<◌, ◌⊎◌, inl, inr, Bool, true, false, ◌||◌, List, [], ◌∷◌, ◌++◌, refl, sym, ap, subst, ◌∙◌, Contains}
 use Rattle.std.specs.List.{list_any}
-use Rattle.std.proofs.lemmas.Bool.{or_cases, false≢true}
+use Rattle.std.proofs.lemmas.Bool.{or_cases, false≢true, or_left, or_right}
+use Rattle.std.proofs.lemmas.List.Folds.{list_any-append}
 use Rattle.repl_data.specs.declared.csn.Uid.{Uid}
 use Rattle.repl_data.specs.declared.change.Change.{Change}
 use Rattle.repl_data.specs.declared.change.Body.{Body}
@@ -21,26 +22,10 @@ use Rattle.node_core.proofs.Orders.{lt_number}
 abbrev pub adds : Uid → Change → Bool
 adds id c = list_any (uid_eq id) (ids_added c.target c.body)
 
-or_left : (a b : Bool) → a ≡ true → (a || b) ≡ true
-or_left true b e = refl
-or_left false b e = absurd (false≢true e)
-
-or_right : (a b : Bool) → b ≡ true → (a || b) ≡ true
-or_right true b e = refl
-or_right false b e = e
-
-any_append : {X : Type 0} (p : X → Bool) (xs ys : List X) → list_any p (xs ++ ys) ≡ (list_any p xs || list_any p ys)
-any_append p [] ys = refl
-any_append p (x ∷ xs) ys = ap (λ b. p x || b) (any_append p xs ys) ∙ turned (p x) (list_any p xs) (list_any p ys)
-  where
-    turned : (a b c : Bool) → (a || (b || c)) ≡ ((a || b) || c)
-    turned true b c = refl
-    turned false b c = refl
-
 added-adds : (xs : List Change) (id : Uid) → list_any (uid_eq id) (added_ids xs) ≡ true → (c : Change) × Contains xs c × (adds id c ≡ true)
 added-adds [] id e = absurd (false≢true e)
 added-adds (x ∷ xs) id e =
-    elim (or_cases (adds id x) (list_any (uid_eq id) (added_ids xs)) (sym (any_append (uid_eq id) (ids_added x.target x.body) (added_ids xs)) ∙ e)) [
+    elim (or_cases (adds id x) (list_any (uid_eq id) (added_ids xs)) (sym (list_any-append (uid_eq id) (ids_added x.target x.body) (added_ids xs)) ∙ e)) [
       | inl t ↦ (x, Contains-here x xs, t)
       | inr f ↦ (let r = added-adds xs id f in (r.0, Contains-there x xs r.0 r.1, r.2))
     ]
@@ -48,7 +33,7 @@ added-adds (x ∷ xs) id e =
 adds-added : (xs : List Change) (id : Uid) (c : Change) → Contains xs c → adds id c ≡ true → list_any (uid_eq id) (added_ids xs) ≡ true
 adds-added [] id c h t = absurd (Contains-nil h)
 adds-added (x ∷ xs) id c h t =
-    any_append (uid_eq id) (ids_added x.target x.body) (added_ids xs)
+    list_any-append (uid_eq id) (ids_added x.target x.body) (added_ids xs)
     ∙ elim (Contains-cons_cases x xs c h) [
       | inl e ↦ or_left (adds id x) (list_any (uid_eq id) (added_ids xs)) (subst (λ z. adds id z ≡ true) (sym e) t)
       | inr q ↦ or_right (adds id x) (list_any (uid_eq id) (added_ids xs)) (adds-added xs id c q t)

@@ -1,6 +1,6 @@
 -- The greatest CSN of its originator below one that is given, by its members.
 use Rattle.std.proofs.Common.{◌≡◌, ◌<◌, ◌≤◌, ◌⊎◌, inl, inr, true, ◌||◌, ◌==◌, Bool, false, List, filter, refl, sym, ap, subst, ◌∙◌, Contains, eqb-true, eq-eqb}
-use Rattle.std.proofs.lemmas.Bool.{and_parts, and_from}
+use Rattle.std.proofs.lemmas.Bool.{and_parts, and_from, or_left, or_right}
 use Rattle.repl_data.specs.declared.csn.Csn.{Csn}
 use Rattle.repl_data.specs.declared.change.Change.{Change}
 use Rattle.repl_data.specs.Order.{csn_lt, csn_eq, zero_csn, number_of}
@@ -46,14 +46,6 @@ prev_same xs ys k p p' q there back =
     greatest_same (filter (is_before k) (csns_of xs)) (filter (is_before k) (csns_of ys))
     (λ x h. (let f = prev-from xs k x p q h in subst (λ z. Contains (filter (is_before k) (csns_of ys)) z) f.3 (prev-in ys k f.0 p' q (there f.0 f.2 f.4 f.1) f.2 f.4)))
     (λ x h. (let f = prev-from ys k x p' q h in subst (λ z. Contains (filter (is_before k) (csns_of xs)) z) f.3 (prev-in xs k f.0 p q (back f.0 f.2 f.4 f.1) f.2 f.4)))
-
-or_left : (a b : Bool) → a ≡ true → (a || b) ≡ true
-or_left true b e = refl
-or_left false b e = absurd cc
-
-or_right : (a b : Bool) → b ≡ true → (a || b) ≡ true
-or_right true b e = refl
-or_right false b e = e
 
 -- a prev that is the greatest below is well formed
 pub prev_in-fits : (taken : List Change) (k : Csn) → TakePlain taken → is_prev (prev_in taken k) k ≡ true

@@ -21,7 +21,7 @@ use Rattle.ldap_types.specs.declared.request.RawAttr.{RawAttr}
 use Rattle.ldap_types.specs.declared.reply.Identity.{Identity}
 use Rattle.rule_values.specs.Listed.{named_keys, attributes_beside, with_name, has_too_many_values, entry_attributes}
 use Rattle.ldap_rules.specs.Case.{◌>>=◌, coded}
-use Rattle.ldap_rules.specs.Names.{entry_at}
+use Rattle.dn_text.specs.Names.{entry_at}
 use Rattle.ldap_rules.specs.Writes.{all_writes, not_too_heavy}
 use Rattle.ldap_rules.specs.Add.{add_body, add_verdict}
 use Rattle.ldap_rules.specs.Laws.{change_at, needed_at, IsDrawnAbove}

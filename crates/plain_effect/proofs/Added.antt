@@ -6,6 +6,8 @@ use Rattle.std.specs.declared.cmp.Ordering.{Ordering}
 use Rattle.std.specs.declared.cmp.Ordering.TheVariants.{Less, Equal, Greater}
 use Rattle.std.specs.Ordering.{is_eq, is_lt, ordering_reverse}
 use Rattle.std.proofs.lemmas.Cmp.{tied_itself}
+use Rattle.std.proofs.lemmas.Bool.{or_right}
+use Rattle.std.proofs.lemmas.List.Folds.{list_any-append}
 use Rattle.repl_data.specs.declared.csn.Csn.{Csn}
 use Rattle.repl_data.specs.declared.csn.Uid.{Uid}
 use Rattle.repl_data.specs.declared.change.Attr.{Attr}
@@ -26,10 +28,13 @@ use Rattle.repl_data.proofs.Orders.{csn_total, csn_exact, uid_total, uid_exact}
 use Rattle.repl_data.proofs.CsnTests.{csn_lt-zero, csn_lt-irreflexive, csn_lt-trans, csn_lt-one_way, csn_lt-from_not_zero}
 use Rattle.repl_data.proofs.InOrder.{is_equal, any-in_order_by}
 use Rattle.repl_data.proofs.Known.{any_map}
+use Rattle.repl_data.proofs.KeyPlaces.{is_less}
 use Rattle.repl_data.proofs.Sound.{not_both, both_true, not_false, neither, no_fault, no_faults, sound_order}
 use Rattle.repl_data.proofs.Steps.{flat_map-append, append_none, all_facts-append}
 use Rattle.ldap_rules.specs.Laws.{has_entry}
-use Rattle.ldap_rules.proofs.OwnNames.{all_mono, all_map, all_append, all_in_order}
+use Rattle.repl_data.proofs.Loops.{all_append, all_map}
+use Rattle.ldap_rules.proofs.OwnNames.{all_mono, all_in_order}
+use Rattle.ldap_rules.proofs.There.{some_any}
 use Rattle.plain_effect.specs.Above.{IsAbove}
 use Rattle.plain_effect.proofs.Shown.{acts_of}
 use Rattle.plain_effect.proofs.Present.{put_last}
@@ -87,11 +92,6 @@ all_below suffix c xs r s a =
     all_map (λ (e : EntryFacts). csn_lt e.id.csn c ≡ true) (entry_facts suffix xs) (ids_known xs)
     (all_in_order (λ (u : Uid). csn_lt u.csn c ≡ true) (suffix_id ∷ added_ids xs) (above_zero c r, ids_below c xs s a))
 
-is_less : (o : Ordering) → is_lt o ≡ true → o ≡ Less
-is_less Less h = refl
-is_less Equal h = absurd (not_both false h refl)
-is_less Greater h = absurd (not_both false h refl)
-
 pub greater : (c : Csn) (u w : Uid) → u.csn ≡ c → csn_lt w.csn c ≡ true → uid_cmp u w ≡ Greater
 greater c u w own l = ap (λ k. csn_cmp k w.csn) own ∙ csn_total.antisymm c w.csn ∙ ap ordering_reverse (is_less (csn_cmp w.csn c) l)
 
@@ -128,24 +128,12 @@ not_suffix c u own r = by (uid_eq u suffix_id) refl
         absurd (omega arith)
     by false e = e
 
-either_right : (a b : Bool) → b ≡ true → (a || b) ≡ true
-either_right true b h = refl
-either_right false b h = h
-
-any_append : {X : Type 0} (q : X → Bool) (xs ys : List X) → list_any q (xs ++ ys) ≡ (list_any q xs || list_any q ys)
-any_append q [] ys = refl
-any_append q (x ∷ xs) ys = ap (λ b. q x || b) (any_append q xs ys) ∙ by (q x)
-  where
-    by : (b : Bool) → (b || (list_any q xs || list_any q ys)) ≡ ((b || list_any q xs) || list_any q ys)
-    by true = refl
-    by false = refl
-
 new_known : (xs : List Change) (c : Csn) (u parent : Uid) (rdn : Rdn) (attrs : List Attr) → is_known (xs ++ adding c u parent rdn attrs ∷ []) u ≡ true
 new_known xs c u parent rdn attrs =
-    either_right (uid_eq u suffix_id) _
+    or_right (uid_eq u suffix_id) _
     (ap (list_any (uid_eq u)) (flat_map-append (λ (d : Change). ids_added d.target d.body) xs (adding c u parent rdn attrs ∷ []))
-    ∙ any_append (uid_eq u) (added_ids xs) (u ∷ [])
-    ∙ either_right (list_any (uid_eq u) (added_ids xs)) (uid_eq u u || false) (ap (λ o. is_eq o || false) (tied_itself uid_total u)))
+    ∙ list_any-append (uid_eq u) (added_ids xs) (u ∷ [])
+    ∙ or_right (list_any (uid_eq u) (added_ids xs)) (uid_eq u u || false) (ap (λ o. is_eq o || false) (tied_itself uid_total u)))
 
 -- THE ENTRIES AFTER THE ADD: those before it, and the new one behind them
 pub entries_after : (suffix : Suffix) (xs : List Change) (c : Csn) (u parent : Uid) (rdn : Rdn) (attrs : List Attr) → u.csn ≡ c → 0 < c.rid → list_all is_sound xs ≡ true → IsAbove c xs
@@ -240,13 +228,13 @@ live_present u (e ∷ above) h = by (uid_eq e.id u) (is_live e) refl refl h (liv
     by true false s l g more = either (list_any (is_child e.id) (present_of above)) (more g)
       where
         either : (b : Bool) → is_among_entries (present_of above) u ≡ true → is_among_entries (if b then e ∷ present_of above else present_of above) u ≡ true
-        either true k = either_right (uid_eq e.id u) (is_among_entries (present_of above) u) k
+        either true k = or_right (uid_eq e.id u) (is_among_entries (present_of above) u) k
         either false k = k
-    by false true s l g more = either_right (uid_eq e.id u) (is_among_entries (present_of above) u) (more g)
+    by false true s l g more = or_right (uid_eq e.id u) (is_among_entries (present_of above) u) (more g)
     by false false s l g more = either (list_any (is_child e.id) (present_of above)) (more g)
       where
         either : (b : Bool) → is_among_entries (present_of above) u ≡ true → is_among_entries (if b then e ∷ present_of above else present_of above) u ≡ true
-        either true k = either_right (uid_eq e.id u) (is_among_entries (present_of above) u) k
+        either true k = or_right (uid_eq e.id u) (is_among_entries (present_of above) u) k
         either false k = k
 
 root_present : (suffix : Suffix) (c : Csn) (xs : List Change) → list_all is_sound xs ≡ true → IsAbove c xs → is_among_entries (present_of (all_facts suffix xs)) suffix_id ≡ true
@@ -258,14 +246,6 @@ root_present suffix c xs s a =
     (any_map (λ (e : EntryFacts). uid_eq e.id suffix_id && is_live e) (entry_facts suffix xs) (ids_known xs)
     ∙ any-in_order_by uid_cmp uid_total (λ (v : Uid). v) uid_exact q (suffix_id ∷ added_ids xs)
     ∙ ap (λ b. b || list_any q (added_ids xs)) first)
-
-some_any : (q : PresentEntry → Bool) (es : List PresentEntry) → is_some (find q es) ≡ list_any q es
-some_any q [] = refl
-some_any q (e ∷ es) = by (q e) (some_any q es)
-  where
-    by : (b : Bool) → is_some (find q es) ≡ list_any q es → is_some (cond b (Some e) (find q es)) ≡ (b || list_any q es)
-    by true h = refl
-    by false h = h
 
 pub parent_present : (suffix : Suffix) (c : Csn) (xs : List Change) (u : Uid) → list_all is_sound xs ≡ true → IsAbove c xs → has_entry (view_of suffix xs) u ≡ true → is_among_entries (present_of (all_facts suffix xs)) u ≡ true
 parent_present suffix c xs u s a h = by (uid_eq u suffix_id) refl h

@@ -28,7 +28,7 @@ use Rattle.repl_data.proofs.Sound.{neither, not_both}
 use Rattle.repl_data.proofs.Steps.{flat_map-append}
 use Rattle.plain_effect.proofs.Present.{any_last}
 use Rattle.plain_effect.proofs.Normal.{own, opt, listed, with_one, put_key, same_key, above_other, listed_same, all_keys, put_listed, drop_listed, put_none}
-use Rattle.plain_effect.proofs.Choices.{turned}
+use Rattle.plain_effect.proofs.Shown.{turned}
 use Rattle.plain_effect.proofs.Runs.{vals_all, AreRising}
 use Rattle.plain_effect.proofs.Whole.{AreLate, AreEarlier, IsOnce, Leaves, attr_after}
 

@@ -4,6 +4,7 @@ use Rattle.std.specs.Prelude.{filter, flat_map, fold, if◌then◌else◌}
 use Rattle.std.specs.List.{AllByRecursion, list_any}
 use Rattle.std.specs.declared.cmp.Ordering.TheVariants.{Less}
 use Rattle.std.specs.Ordering.{is_eq}
+use Rattle.std.proofs.lemmas.Bool.{or_right}
 use Rattle.repl_data.specs.declared.csn.Csn.{Csn}
 use Rattle.repl_data.specs.declared.change.AttrKey.{AttrKey}
 use Rattle.repl_data.specs.declared.change.Val.{Val}
@@ -22,6 +23,7 @@ use Rattle.repl_data.proofs.InOrder.{in_order_by-append}
 use Rattle.repl_data.proofs.KeyPlaces.{above, put_rises, is_same}
 use Rattle.repl_data.proofs.Raised.{raised_val}
 use Rattle.repl_data.proofs.Sound.{not_both}
+use Rattle.plain_effect.proofs.Shown.{turned}
 use Rattle.plain_effect.proofs.Normal.{own, opt, listed, with_one, put_key, same_key, above_other, listed_same, put_listed, drop_listed, put_none, listed_none}
 
 abbrev key_of : Val → List ℕ
@@ -117,13 +119,9 @@ each_out : (w : Choice) (old vals : List Val) → AllByRecursion (λ (v : Val). 
 each_out w old [] h = tt
 each_out w old (v ∷ vals) h = (ap (λ (b : Bool). if b then None else w v.key) h.0, each_out w old vals h.1)
 
-either_right : (a b : Bool) → b ≡ true → (a || b) ≡ true
-either_right true b h = refl
-either_right false b h = h
-
 among_more : (y : Val) (old vals : List Val) → AllByRecursion (λ (v : Val). list_any (λ (x : Val). bytes_eq x.key v.key) old ≡ true) vals → AllByRecursion (λ (v : Val). list_any (λ (x : Val). bytes_eq x.key v.key) (y ∷ old) ≡ true) vals
 among_more y old [] h = tt
-among_more y old (v ∷ vals) h = (either_right (bytes_eq y.key v.key) (list_any (λ (x : Val). bytes_eq x.key v.key) old) h.0, among_more y old vals h.1)
+among_more y old (v ∷ vals) h = (or_right (bytes_eq y.key v.key) (list_any (λ (x : Val). bytes_eq x.key v.key) old) h.0, among_more y old vals h.1)
 
 each_among : (vals : List Val) → AllByRecursion (λ (v : Val). list_any (λ (x : Val). bytes_eq x.key v.key) vals ≡ true) vals
 each_among [] = tt
@@ -245,14 +243,6 @@ deletes_done s t (v ∷ vals) f = ap (λ g. raised_all g (map (Deletes s t) vals
     by : (b : Bool) → ◌≡◌ {A = ValFacts} (record f { down = if b then csn_max s s else s }) (gone_at s f)
     by true = ap (λ (b : Bool). record f { down = if b then s else s }) (csn_lt-irreflexive s)
     by false = refl
-
-pub turned : (a b : List ℕ) (o : Bool) → bytes_eq a b ≡ o → bytes_eq b a ≡ o
-turned a b true e = subst (λ x. bytes_eq b x ≡ true) (sym (is_same a b e)) (same_key b)
-turned a b false e = by (bytes_eq b a) refl
-  where
-    by : (o : Bool) → bytes_eq b a ≡ o → bytes_eq b a ≡ false
-    by true k = absurd (not_both (bytes_eq a b) (subst (λ x. bytes_eq a x ≡ true) (sym (is_same b a k)) (same_key a)) e)
-    by false k = k
 
 -- values that are deleted: this key is among them, or nothing changed
 deletes_one : (s : Csn) (t : AttrKey) (vals : List Val) (f : ValFacts) → csn_lt f.down s ≡ true

@@ -26,7 +26,8 @@ use Rattle.repl_data.proofs.Sound.{not_both, both_true, neither}
 use Rattle.ldap_rules.specs.Laws.{has_entry}
 use Rattle.ldap_rules.specs.Ordered.{Rises, attr_name}
 use Rattle.ldap_rules.proofs.Goods.{IsGood}
-use Rattle.ldap_rules.proofs.OwnNames.{all_mono, all_map, present_such}
+use Rattle.repl_data.proofs.Loops.{all_map}
+use Rattle.ldap_rules.proofs.OwnNames.{all_mono, present_such}
 use Rattle.plain_effect.specs.Above.{IsAbove}
 use Rattle.plain_effect.proofs.Shown.{HasFew, acts_show}
 use Rattle.plain_effect.proofs.Present.{put_last, map_all, present_keeps, present_more, gone_more, name_stays, name_new}

@@ -5,6 +5,7 @@ use Rattle.std.specs.List.{AllByRecursion, list_any}
 use Rattle.std.specs.declared.cmp.Ordering.TheVariants.{Less, Greater}
 use Rattle.std.specs.Ordering.{is_eq}
 use Rattle.std.proofs.lemmas.Cmp.{tied_itself}
+use Rattle.std.proofs.lemmas.Bool.{or_right}
 use Rattle.repl_data.specs.declared.csn.Uid.{Uid}
 use Rattle.repl_data.specs.Order.{uid_cmp, uid_eq, suffix_id, put_by, by_order}
 use Rattle.repl_data.specs.Facts.{EntryFacts}
@@ -14,7 +15,7 @@ use Rattle.repl_data.proofs.Orders.{uid_total, uid_exact}
 use Rattle.repl_data.proofs.InOrder.{is_equal, either_true, Rises}
 use Rattle.repl_data.proofs.Known.{eq_turned}
 use Rattle.repl_data.proofs.Sound.{not_both}
-use Rattle.repl_data.proofs.Steps.{filter-append}
+use Rattle.repl_data.proofs.Steps.{append_none, filter-append}
 use Rattle.ldap_rules.proofs.OwnNames.{all_mono, present_such}
 
 abbrev pub id_of : EntryFacts → Uid
@@ -112,20 +113,12 @@ pub gone_more : (present es : List EntryFacts) (f : EntryFacts) → AllByRecursi
 gone_more present es f h =
     filter-append (λ (e : EntryFacts). not (is_among_entries (present ++ f ∷ []) e.id)) es (f ∷ [])
     ∙ (λ i. others es h i ++ own i)
-    ∙ none (filter (λ (e : EntryFacts). not (is_among_entries present e.id)) es)
+    ∙ append_none (filter (λ (e : EntryFacts). not (is_among_entries present e.id)) es)
   where
-    none : {X : Type 0} (xs : List X) → xs ++ [] ≡ xs
-    none [] = refl
-    none (x ∷ xs) = ap (λ ys. x ∷ ys) (none xs)
-
-    either_right : (a b : Bool) → b ≡ true → (a || b) ≡ true
-    either_right true b e = refl
-    either_right false b e = e
-
     own : filter (λ (e : EntryFacts). not (is_among_entries (present ++ f ∷ []) e.id)) (f ∷ []) ≡ []
     own =
         let there : is_among_entries (present ++ f ∷ []) f.id ≡ true =
-        any_last (λ (e : EntryFacts). uid_eq e.id f.id) present f ∙ either_right (is_among_entries present f.id) (uid_eq f.id f.id) (ap is_eq (tied_itself uid_total f.id)) in
+        any_last (λ (e : EntryFacts). uid_eq e.id f.id) present f ∙ or_right (is_among_entries present f.id) (uid_eq f.id f.id) (ap is_eq (tied_itself uid_total f.id)) in
         ap (λ b. cond (not b) (f ∷ []) []) there
 
     others : (xs : List EntryFacts) → AllByRecursion (λ e. uid_eq f.id e.id ≡ false) xs → filter (λ (e : EntryFacts). not (is_among_entries (present ++ f ∷ []) e.id)) xs ≡ filter (λ (e : EntryFacts). not (is_among_entries present e.id)) xs

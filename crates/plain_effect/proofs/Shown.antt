@@ -6,6 +6,7 @@ use Rattle.std.specs.declared.cmp.Ordering.TheVariants.{Less}
 use Rattle.std.specs.Ordering.{is_eq, is_lt}
 use Rattle.std.proofs.lemmas.Bool.Decides.{nat_tests}
 use Rattle.std.proofs.lemmas.Cmp.{tied_itself}
+use Rattle.std.proofs.lemmas.Bool.{or_right}
 use Rattle.repl_data.specs.declared.csn.Csn.{Csn}
 use Rattle.repl_data.specs.declared.change.AttrKey.{AttrKey}
 use Rattle.repl_data.specs.declared.change.Val.{Val}
@@ -26,7 +27,7 @@ use Rattle.repl_data.proofs.Steps.{filter-append}
 use Rattle.ldap_rules.specs.Ordered.{Rises, val_key, attr_name}
 use Rattle.ldap_rules.proofs.Places.{above_others, is_same, equal_key}
 use Rattle.ldap_rules.proofs.Goods.{IsGood}
-use Rattle.ldap_rules.proofs.OwnNames.{all_map}
+use Rattle.repl_data.proofs.Loops.{all_map}
 
 abbrev put_name : AttrKey → List AttrKey → List AttrKey
 put_name = put_by (λ (t : AttrKey). t.name) bytes_cmp
@@ -81,7 +82,7 @@ filter_adds s t b [] false h = refl
 filter_adds s t b (v ∷ vals) true h = ap (λ o. cond o (Adds s b v ∷ filter (is_act_on t) (adds s b vals)) (filter (is_act_on t) (adds s b vals))) h ∙ ap (λ as_. Adds s b v ∷ as_) (filter_adds s t b vals true h)
 filter_adds s t b (v ∷ vals) false h = ap (λ o. cond o (Adds s b v ∷ filter (is_act_on t) (adds s b vals)) (filter (is_act_on t) (adds s b vals))) h ∙ filter_adds s t b vals false h
 
-turned : (a b : List ℕ) (o : Bool) → bytes_eq a b ≡ o → bytes_eq b a ≡ o
+pub turned : (a b : List ℕ) (o : Bool) → bytes_eq a b ≡ o → bytes_eq b a ≡ o
 turned a b true h = equal_key b a (sym (is_same a b h))
 turned a b false h = by (bytes_eq b a) refl
   where
@@ -175,14 +176,10 @@ own_facts s t vals r =
 
 -- ---- they show
 
-either_right : (a b : Bool) → b ≡ true → (a || b) ≡ true
-either_right true b h = refl
-either_right false b h = h
-
 all_held : (s : Csn) (rdn : Rdn) (t : AttrKey) (vals : List Val) → filter (is_held rdn t) (map (fact s) vals) ≡ map (fact s) vals
 all_held s rdn t [] = refl
 all_held s rdn t (v ∷ vals) =
-    let held : is_held rdn t (fact s v) ≡ true = either_right (is_in_name rdn t v.key) (csn_le zero_csn s) (csn_le-from_not zero_csn s (csn_lt-zero s)) in
+    let held : is_held rdn t (fact s v) ≡ true = or_right (is_in_name rdn t v.key) (csn_le zero_csn s) (csn_le-from_not zero_csn s (csn_lt-zero s)) in
     ap (λ o. cond o (fact s v ∷ filter (is_held rdn t) (map (fact s) vals)) (filter (is_held rdn t) (map (fact s) vals))) held
     ∙ ap (λ xs. fact s v ∷ xs) (all_held s rdn t vals)
 

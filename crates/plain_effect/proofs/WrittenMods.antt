@@ -12,7 +12,7 @@ use Rattle.repl_data.proofs.Sound.{neither, not_both}
 use Rattle.rule_values.specs.Written.{Values, is_modified, replaced, write_before, written}
 use Rattle.rule_values.specs.Modify.{after, has_second}
 use Rattle.ldap_rules.proofs.Modified.{no_second}
-use Rattle.plain_effect.proofs.Choices.{turned}
+use Rattle.plain_effect.proofs.Shown.{turned}
 use Rattle.plain_effect.proofs.Runs.{vals_all}
 use Rattle.plain_effect.proofs.Whole.{has_mod, IsOnce}
 

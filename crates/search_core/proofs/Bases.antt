@@ -10,10 +10,10 @@ use Rattle.repl_data.specs.Order.{uid_eq, suffix_id, same_rdn}
 use Rattle.repl_data.specs.View.{DirectoryView, PresentEntry, is_shown_below, children_entries, child_of}
 use Rattle.repl_data.proofs.Orders.{uid_total}
 use Rattle.ldap_types.specs.declared.reply.LdapResult.{LdapResult}
-use Rattle.ldap_rules.specs.declared.walk.Place.{Place}
-use Rattle.ldap_rules.specs.declared.walk.Place.TheVariants.{There, Nearest}
-use Rattle.ldap_rules.specs.Names.{below, place_of, found, entry_at, shown_name}
-use Rattle.ldap_rules.specs.Case.{no_such_object}
+use Rattle.dn_text.specs.declared.place.Place.{Place}
+use Rattle.dn_text.specs.declared.place.Place.TheVariants.{There, Nearest}
+use Rattle.dn_text.specs.Names.{below, place_of, found, entry_at, shown_name}
+use Rattle.dn_text.specs.Case.{no_such_object}
 use Rattle.view_walk.specs.Tree.{IsNamedTree, is_present}
 
 found_among : (q f : PresentEntry → Bool) (c : Uid) (es : List PresentEntry) → option_map (λ (e : PresentEntry). e.id) (find q (filter f es)) ≡ Some c → list_any (λ (e : PresentEntry). uid_eq e.id c) es ≡ true

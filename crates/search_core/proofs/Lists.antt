@@ -14,9 +14,9 @@ use Rattle.ldap_types.specs.declared.request.SearchRequest.{SearchRequest}
 use Rattle.ldap_types.specs.declared.reply.LdapResult.{LdapResult}
 use Rattle.dn_text.specs.declared.name.Dn.{Dn}
 use Rattle.dn_text.specs.Reading.{dn_in}
-use Rattle.ldap_rules.specs.Case.{◌>>=◌}
-use Rattle.ldap_rules.specs.Names.{rdns_above}
-use Rattle.ldap_rules.specs.Writes.{read_object, within}
+use Rattle.rule_values.specs.Refusing.{◌>>=◌}
+use Rattle.dn_text.specs.Names.{rdns_above}
+use Rattle.dn_text.specs.Names.{read_object, within}
 use Rattle.search_core.specs.declared.found.Hits.{Hits}
 use Rattle.search_core.specs.declared.query.Query.{Query}
 use Rattle.search_core.specs.declared.scope.Scope.{Scope}

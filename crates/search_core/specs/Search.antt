@@ -11,9 +11,10 @@ use Rattle.ldap_types.specs.declared.request.Filter.{Filter}
 use Rattle.ldap_types.specs.declared.reply.LdapResult.{LdapResult}
 use Rattle.dn_text.specs.declared.name.Dn.{Dn}
 use Rattle.dn_text.specs.Reading.{dn_in}
-use Rattle.ldap_rules.specs.Case.{◌>>=◌, result_of, refuse}
-use Rattle.ldap_rules.specs.Names.{rdns_above, entry_at}
-use Rattle.ldap_rules.specs.Writes.{read_object, within}
+use Rattle.rule_values.specs.Refusing.{◌>>=◌}
+use Rattle.dn_text.specs.Case.{result_of, refuse}
+use Rattle.dn_text.specs.Names.{rdns_above, entry_at}
+use Rattle.dn_text.specs.Names.{read_object, within}
 use Rattle.search_core.specs.declared.found.Found.{Found}
 use Rattle.search_core.specs.declared.found.Hits.{Hits}
 use Rattle.search_core.specs.declared.scope.Scope.{Scope}

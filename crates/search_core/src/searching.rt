@@ -3,7 +3,7 @@
 ghost use Rattle.std.specs.Prelude.{◌≡◌, [], ◌∷◌, filter, IfOk, Ok};
 ghost use Rattle.ldap_types.specs.declared.request.SearchRequest.{SearchRequest};
 ghost use Rattle.dn_text.specs.Reading.{dn_in};
-ghost use Rattle.ldap_rules.specs.Case.{Gives, result_of};
+ghost use Rattle.dn_text.specs.Case.{Gives, result_of};
 ghost use Rattle.search_core.specs.Hits.{is_meant};
 ghost use Rattle.search_core.specs.Made.{root_entry};
 ghost use Rattle.search_core.specs.Tree.{IsTree};
@@ -17,21 +17,10 @@ use crate::made::root_entry;
 use crate::query::{Query, no_hits};
 use crate::scope::{Scope, scope_of};
 use crate::walk::present_hits;
-use ldap_rules::{JudgeFault, entry_at, object, rdns_above};
+use dn_text::{JudgeFault, entry_at, object, rdns_above, result_of};
 use ldap_types::{Code, LdapResult, SearchRequest};
 use repl_data::{Bytes, NoMemory, Rdn, ShownEntryList, Uid, VectorText, View};
 use std::alloc::Global;
-
-/// A result of this code that says no more.
-fn result_of(alloc: Global, code: Code) -> LdapResult
-    ensures { result ≡ result_of code.number }
-{
-    LdapResult {
-        code,
-        matched: Bytes::new(alloc),
-        text: Bytes::new(alloc),
-    }
-}
 
 fn read_scope(alloc: Global, request: &SearchRequest) -> Result<Scope, JudgeFault>
     ensures { Gives result (read_scope (scope_of request.now.scope)) }

@@ -1,8 +1,8 @@
 use Rattle.std.proofs.Common.{sym, ap, subst, ◌∙◌}
 use Rattle.dn_text.specs.Reading.{dn_in}
-use Rattle.ldap_rules.specs.Case.{Gives}
-use Rattle.ldap_rules.specs.Names.{rdns_above}
-use Rattle.ldap_rules.specs.Writes.{read_object, within}
+use Rattle.dn_text.specs.Case.{Gives}
+use Rattle.dn_text.specs.Names.{rdns_above}
+use Rattle.dn_text.specs.Names.{read_object, within}
 use Rattle.search_core.specs.Search.{is_root, hits_below}
 use Rattle.search_core.proofs.Lists.{hits_from}
 use Rattle.search_core.proofs.searching.all_hits.Goals as goal

@@ -1,5 +1,5 @@
-use Rattle.ldap_rules.proofs.Keys.{zero_count, no_count}
-use Rattle.ldap_rules.proofs.names.same_keys.Goals as goal
+use Rattle.dn_text.proofs.Counted.{zero_count, no_count}
+use Rattle.dn_text.proofs.named.same_keys.Goals as goal
 
 pub returns-in-Some : goal.returns-in-Some
 returns-in-Some c =

@@ -1,20 +1,20 @@
-//! Names below the suffix.
+//! The name of a request, and its relative names above the suffix.
 
 ghost use Rattle.std.specs.Prelude.{◌≡◌, ◌≤◌, IfOk, IfSome, length, take, Ok, Option, List};
 ghost use Rattle.dn_text.specs.Reading.{dn_in};
-ghost use Rattle.ldap_rules.specs.Case.{Gives};
-ghost use Rattle.ldap_rules.specs.Names.{same_keys, count_above, rdns_above, have_same_keys, is_named};
-ghost use Rattle.ldap_rules.specs.Writes.{read_object, within};
+ghost use Rattle.dn_text.specs.Case.{Gives};
+ghost use Rattle.dn_text.specs.Names.{same_keys, count_above, rdns_above, have_same_keys, is_named};
+ghost use Rattle.dn_text.specs.Names.{read_object, within};
 
-use crate::case::refused;
-use crate::fault::JudgeFault;
-use dn_text::{Dn, DnFault, RdnList, read_dn};
+use crate::fault::{DnFault, JudgeFault};
+use crate::name::{Dn, RdnList, read_dn};
+use crate::refusing::refused;
 use ldap_types::Code;
 use repl_data::{Bytes, NoMemory};
 use std::alloc::Global;
 
 /// How many relative names stand above the suffix.
-pub(crate) fn count_above(name: &Dn, suffix: &Dn) -> Option<usize>
+pub fn count_above(name: &Dn, suffix: &Dn) -> Option<usize>
     ensures value { result ≡ count_above name.now suffix.now }
     ensures fits { IfSome result (λ count. count ≤ length name.now.rdns) }
 {
@@ -22,7 +22,7 @@ pub(crate) fn count_above(name: &Dn, suffix: &Dn) -> Option<usize>
 }
 
 /// The two names are the same, by the keys of their relative names.
-pub(crate) fn same_keys(a: &Dn, b: &Dn) -> bool
+pub fn same_keys(a: &Dn, b: &Dn) -> bool
     ensures { result ≡ same_keys a.now.rdns b.now.rdns }
 {
     match a.below(b) {

@@ -1,6 +1,6 @@
 use Rattle.std.proofs.Common.{◌≡◌, ◌≤◌, length, drop}
-use Rattle.ldap_rules.specs.Names.{place_of}
-use Rattle.ldap_rules.proofs.walk.place_of.Given as goal
+use Rattle.dn_text.specs.Names.{place_of}
+use Rattle.dn_text.proofs.place.place_of.Given as goal
 
 abbrev pub invariant-loop-left : goal.invariant-loop-left
 invariant-loop-left g l = record {

@@ -2,11 +2,11 @@
 
 ghost use Rattle.std.specs.Prelude.{◌≡◌, IfOk};
 ghost use Rattle.repl_data.specs.Order.{suffix_id};
-ghost use Rattle.ldap_rules.specs.Case.{Gives};
-ghost use Rattle.ldap_rules.specs.Names.{below, place_of, shown_name, found, entry_at};
+ghost use Rattle.dn_text.specs.Case.{Gives};
+ghost use Rattle.dn_text.specs.Names.{below, place_of, shown_name, found, entry_at};
 
-use crate::case::no_such_object;
 use crate::fault::JudgeFault;
+use crate::refusing::no_such_object;
 use repl_data::{Bytes, NoMemory, Rdn, Uid, View};
 use std::alloc::Global;
 

@@ -1,4 +1,4 @@
--- Names below the suffix, and the entries that have them.
+-- The entry that a request names: below the suffix, by the names that entries show.
 use Rattle.std.specs.Prelude.{ℕ, ◌-◌, Bool, true, false, ◌&&◌, nat_le, List, [], ◌∷◌, length, take, drop, Option, Some, None, option_map, unwrap_or, Result, Ok, Err, if◌then◌else◌}
 use Rattle.std.specs.Ordering.{eq_by_cmp}
 use Rattle.std.specs.Cmp.Lexicographic.{slice_cmp}
@@ -12,9 +12,9 @@ use Rattle.dn_text.specs.declared.name.Dn.{Dn}
 use Rattle.dn_text.specs.declared.fault.DnFault.{DnFault}
 use Rattle.dn_text.specs.Below.{keys_of}
 use Rattle.dn_text.specs.Reading.{dn_in}
-use Rattle.ldap_rules.specs.declared.walk.Place.{Place}
-use Rattle.ldap_rules.specs.declared.walk.Place.TheVariants.{There, Nearest}
-use Rattle.ldap_rules.specs.Case.{no_such_object}
+use Rattle.dn_text.specs.declared.place.Place.{Place}
+use Rattle.dn_text.specs.declared.place.Place.TheVariants.{There, Nearest}
+use Rattle.dn_text.specs.Case.{no_such_object, refuse}
 
 abbrev pub is_read : Result Dn DnFault → Bool
 is_read (Ok dn) = true
@@ -45,6 +45,18 @@ is_named configured text = have_same_keys (dn_in configured) (dn_in text)
 abbrev pub rdns_above : Result Dn DnFault → Dn → Option (List Rdn)
 rdns_above (Ok suffix) name = option_map (λ count. take count name.rdns) (count_above name suffix)
 rdns_above (Err e) name = None
+
+-- ---- the name of a request, and its refusals
+
+abbrev pub read_object : Result Dn DnFault → Result Dn LdapResult
+read_object (Ok dn) = Ok dn
+read_object (Err e) = refuse 34
+
+abbrev pub within : Option (List Rdn) → Result (List Rdn) LdapResult
+within (Some rdns) = Ok rdns
+within None = refuse 32
+
+-- ---- the entry of a name
 
 -- The entry of a name below the suffix: below the entry of the name without its first RDN, the child that shows
 -- that RDN. Where it is not there, the nearest present entry above it.

@@ -3,9 +3,9 @@ use Rattle.std.proofs.Common.{◌≡◌, ℕ, ◌+◌, ◌<◌, ◌≤◌, List,
 use Rattle.std.proofs.lemmas.List.{at_drop_more, at_drop_all}
 use Rattle.repl_data.specs.declared.change.Rdn.{Rdn}
 use Rattle.repl_data.specs.View.{DirectoryView}
-use Rattle.ldap_rules.specs.declared.walk.Place.TheVariants.{There}
+use Rattle.dn_text.specs.declared.place.Place.TheVariants.{There}
 use Rattle.repl_data.specs.Order.{suffix_id}
-use Rattle.ldap_rules.specs.Names.{below, place_of}
+use Rattle.dn_text.specs.Names.{below, place_of}
 
 pub place_more : (v : DirectoryView) (rdns : List Rdn) (at : ℕ) (d : Rdn) → at < length rdns → place_of v (drop at rdns) ≡ below v (get_or rdns at d) (place_of v (drop (at + 1) rdns))
 unfolding place_of

@@ -10,9 +10,10 @@ use Rattle.repl_data.specs.declared.change.Rdn.{Rdn}
 use Rattle.repl_data.specs.Order.{rdn_key_cmp}
 use Rattle.repl_data.proofs.Orders.{rdn_key_exact, rdn_key_total}
 use Rattle.repl_data.proofs.InOrder.{is_equal}
+use Rattle.repl_data.proofs.Bools.{and-left, and-right, and-both}
 use Rattle.dn_text.specs.declared.name.Dn.{Dn}
 use Rattle.dn_text.specs.Below.{keys_of, StandsAbove}
-use Rattle.ldap_rules.specs.Names.{same_keys, count_above}
+use Rattle.dn_text.specs.Names.{same_keys, count_above}
 
 keys_same : (a b : List Rdn) → same_keys a b ≡ true → keys_of a ≡ keys_of b
 keys_same a b h = slice_cmp-IsAntisymmetric rdn_key_exact (keys_of a) (keys_of b) (is_equal (slice_cmp rdn_key_cmp (keys_of a) (keys_of b)) h)
@@ -20,17 +21,6 @@ keys_same a b h = slice_cmp-IsAntisymmetric rdn_key_exact (keys_of a) (keys_of b
 pub same_from_keys : (a b : List Rdn) → keys_of a ≡ keys_of b → true ≡ same_keys a b
 same_from_keys a b h =
     sym (ap (λ k. is_eq (slice_cmp rdn_key_cmp k (keys_of b))) h ∙ ap is_eq (tied_itself (lists_total rdn_key_total) (keys_of b)))
-
-both : (a b : Bool) → a ≡ true → b ≡ true → (a && b) ≡ true
-both a b p q = ap (λ x. x && b) p ∙ q
-
-first_of_both : (a b : Bool) → (a && b) ≡ true → a ≡ true
-first_of_both true b h = refl
-first_of_both false b h = h
-
-second_of_both : (a b : Bool) → (a && b) ≡ true → b ≡ true
-second_of_both true b h = h
-second_of_both false b h = let e : false ≡ true = h in cc
 
 le_true : (m n : ℕ) → m ≤ n → nat_le m n ≡ true
 le_true m n h = grind (arith, nat_tests)
@@ -45,14 +35,14 @@ counted name suffix count h =
     let le : nat_le (length suffix.rdns) (length name.rdns) ≡ true = le_true _ _ (omega arith) in
     let s : same_keys (drop count name.rdns) suffix.rdns ≡ true = sym (same_from_keys (drop count name.rdns) suffix.rdns h.same) in
     sym (ap (λ (n : ℕ). cond (nat_le (length suffix.rdns) (length name.rdns) && same_keys (drop n name.rdns) suffix.rdns) (Some n) None) e
-    ∙ ap (λ (b : Bool). cond b (Some count) None) (both _ _ le s))
+    ∙ ap (λ (b : Bool). cond b (Some count) None) (and-both _ _ le s))
 
 not_counted : (name suffix : Dn) → ((count : ℕ) → StandsAbove name suffix count → ⊥) → None ≡ count_above name suffix
 not_counted name suffix h =
     by (nat_le (length suffix.rdns) (length name.rdns) && same_keys (drop (length name.rdns - length suffix.rdns) name.rdns) suffix.rdns)
     (λ t. h (length name.rdns - length suffix.rdns) (record {
-      lengths = let l : length suffix.rdns ≤ length name.rdns = le_from _ _ (first_of_both _ _ t) in omega arith;
-      same = keys_same _ _ (second_of_both _ _ t);
+      lengths = let l : length suffix.rdns ≤ length name.rdns = le_from _ _ (and-left _ _ t) in omega arith;
+      same = keys_same _ _ (and-right _ _ t);
     }))
   where
     by : (b : Bool) → (b ≡ true → ⊥) → None ≡ cond b (Some (length name.rdns - length suffix.rdns)) None
