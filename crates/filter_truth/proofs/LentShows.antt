@@ -175,7 +175,7 @@ shows_class attrs r k test =
 -- ---- what is derived beside the own attributes
 
 -- what the values of a conflict tell, where there are some
-told_by : List Val → (List ℕ → Bool) → Bool → Bool
+abbrev told_by : List Val → (List ℕ → Bool) → Bool → Bool
 told_by [] test other = other
 told_by (v ∷ vs) test other = list_any (λ (w : Val). test w.key) (v ∷ vs)
 
@@ -228,9 +228,9 @@ found_id u e (d ∷ es) h = by (uid_eq d.id u) refl (found_id u e es) h
     by false k more g = more g
 
 record Lends (v : DirectoryView) (u : Uid) (own : List Shown) (e : PresentEntry) : Type 0 where
-  at : present_at v u ≡ Some e
-  id : e.id ≡ u
-  own : map user e.attrs ≡ own
+  there : present_at v u ≡ Some e
+  same : e.id ≡ u
+  kept : map user e.attrs ≡ own
 
 nothing_is : {X : Type 0} (x : X) → ◌≡◌ {A = Option X} None (Some x) → ⊥
 nothing_is x e = absurd cc
@@ -240,7 +240,7 @@ lends v u own h = by (present_at v u) refl h
   where
     by : (o : Option PresentEntry) → present_at v u ≡ o → option_map (λ (e : PresentEntry). map user e.attrs) o ≡ Some own → (e : PresentEntry) × Lends v u own e
     by None k g = absurd (nothing_is own g)
-    by (Some e) k g = (e, record { at = k; id = found_id u e v.present k; own = cc })
+    by (Some e) k g = (e, record { there = k; same = found_id u e v.present k; kept = cc })
 
 abbrev classed : Bool → List Attr → List Attr
 classed glue attrs = if glue then with_class glue_class attrs else attrs
@@ -250,22 +250,23 @@ module _ (v : DirectoryView) (u : Uid) (own : List Shown) (rises : Rises name_of
   e = (lends v u own lent).0
 
   seen : Lends v u own e
+  unfolding e lends
   seen = (lends v u own lent).1
 
   rise : Rises attr_name e.attrs
-  rise = rises_from e.attrs (subst (Rises name_of) (sym seen.own) rises)
+  rise = rises_from e.attrs (subst (Rises name_of) (sym seen.kept) rises)
 
   abbrev vals : List Val
   vals = conflicts e.is_glue (lost_dn v e)
 
   shown_by : (k : List ℕ) (test : List ℕ → Bool) → shown_at v u k test ≡ by_key u vals test (bytes_eq k (codes "nsuniqueid")) (bytes_eq k (codes "nsds5replconflict")) (shows (map user (classed e.is_glue e.attrs)) k test)
   shown_by k test =
-      ap (λ (o : Option PresentEntry). shows (attrs_of (option_map (present_shown v) o)) k test) seen.at
+      ap (λ (o : Option PresentEntry). shows (attrs_of (option_map (present_shown v) o)) k test) seen.there
       ∙ derived_shows e.id vals (classed e.is_glue e.attrs) k test
-      ∙ ap (λ (w : Uid). by_key w vals test (bytes_eq k (codes "nsuniqueid")) (bytes_eq k (codes "nsds5replconflict")) (shows (map user (classed e.is_glue e.attrs)) k test)) seen.id
+      ∙ ap (λ (w : Uid). by_key w vals test (bytes_eq k (codes "nsuniqueid")) (bytes_eq k (codes "nsds5replconflict")) (shows (map user (classed e.is_glue e.attrs)) k test)) seen.same
 
   own_shows : (k : List ℕ) (test : List ℕ → Bool) → shows (map user e.attrs) k test ≡ shows own k test
-  own_shows k test = ap (λ (o : List Shown). shows o k test) seen.own
+  own_shows k test = ap (λ (o : List Shown). shows o k test) seen.kept
 
   -- glue has a class more
   classed_shows : (g : Bool) (k : List ℕ) (test : List ℕ → Bool) → shows (map user (classed g e.attrs)) k test
@@ -280,7 +281,7 @@ module _ (v : DirectoryView) (u : Uid) (own : List Shown) (rises : Rises name_of
       by false = refl
 
   standing_there : standing_of v u ≡ Some (standing e)
-  standing_there = ap (option_map standing) seen.at
+  standing_there = ap (option_map standing) seen.there
 
   pub never_none : standing_of v u ≡ None → ⊥
   never_none h = nothing_is (standing e) (sym h ∙ standing_there)
@@ -363,7 +364,7 @@ module _ (v : DirectoryView) (u : Uid) (own : List Shown) (rises : Rises name_of
 
 -- a name that is one is no other one
 pub untold : (v : DirectoryView) (u : Uid) (s : Standing) (a : Assertion) → standing_of v u ≡ Some s → s.lost ≡ true → bytes_eq a.attr.name (codes "nsds5replconflict") ≡ true → looks a.test ≡ true → IsUntold v u (looks_at_names a)
-untold v u s a g l n t = record { lost = ap lost_of g ∙ l; asks = λ x. n x && t x }
+untold v u s a g l n t = record { lost = ap lost_of g ∙ l; asked = λ x. n x && t x }
 
 -- a test that looks at no value holds of each
 pub unseen : (t : Test) (key : List ℕ) → looks t ≡ false → (value : List ℕ) → passes key t value ≡ true

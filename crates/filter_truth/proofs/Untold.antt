@@ -1,5 +1,5 @@
 -- What can't be told of one filter can't be told of those that have it inside.
-use Rattle.std.proofs.Common.{◌≡◌, ℕ, ◌+◌, ◌<◌, Bool, true, false, ◌||◌, List, [], ◌∷◌, Option, Some, None, length, get_or, refl, sym, ap, subst, ◌∙◌, arith}
+use Rattle.std.proofs.Common.{◌≡◌, ℕ, ◌+◌, ◌<◌, Bool, true, false, ◌||◌, List, [], ◌∷◌, Option, Some, None, zero, suc, length, get_or, refl, sym, ap, subst, ◌∙◌, arith}
 use Rattle.std.specs.Prelude.{IfSome}
 use Rattle.std.specs.List.{list_any}
 use Rattle.repl_data.specs.declared.csn.Uid.{Uid}
@@ -21,4 +21,4 @@ told_as (Some z) x y e h = h ∙ e
 told_as None x y e h = tt
 
 pub untold_as : (v : DirectoryView) (u : Uid) (a b : Bool) → a ≡ b → IsUntold v u a → IsUntold v u b
-untold_as v u a b e h = record { lost = h.lost; asks = sym e ∙ h.asks }
+untold_as v u a b e h = record { lost = h.lost; asked = sym e ∙ h.asked }

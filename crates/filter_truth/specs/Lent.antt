@@ -54,6 +54,6 @@ unfoldable pub asks_names : Prepared → Bool
 asks_names p = fold-Prepared Bool names_step p
 
 -- the entry lost its name, and the filter looks at the values that tell of it
-pub record IsUntold (v : DirectoryView) (u : Uid) (asks : Bool) : Type 0 where
+pub record IsUntold (v : DirectoryView) (u : Uid) (names : Bool) : Type 0 where
   pub lost : has_lost v u ≡ true
-  pub asks : asks ≡ true
+  pub asked : names ≡ true

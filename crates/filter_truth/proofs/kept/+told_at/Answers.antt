@@ -1,4 +1,4 @@
-use Rattle.std.proofs.Common.{List, sym, ap, ◌∙◌, map}
+use Rattle.std.proofs.Common.{List, refl, sym, ap, ◌∙◌, map}
 use Rattle.std.specs.List.{list_any}
 use Rattle.filter_truth.specs.declared.prepared.Prepared.{Prepared}
 use Rattle.filter_truth.specs.Three.{of_bool, negated, all_of, any_of}
@@ -28,6 +28,26 @@ told_at-returns-in-Or-clause-told g t c =
 pub told_at-returns-in-Or-clause-untold : goal.told_at-returns-in-Or-clause-untold
 told_at-returns-in-Or-clause-untold g t c = λ none.
     untold_as (g.V.View.view c.args.view.now) c.args.id _ _ (ap (λ (ps : List Prepared). list_any asks_names ps) c.as_slice-in-Or.ensures ∙ sym (ap asks_names c.in-Or.is ∙ asks-Or c.in-Or.inside)) (c.any_told_at.ensures.untold none)
+
+pub told_at-returns-in-Some-clause-told : goal.told_at-returns-in-Some-clause-told
+told_at-returns-in-Some-clause-told g t c =
+    let shown : Shows = shown_at (g.V.View.view c.args.view.now) c.args.id in
+    c.negated.ensures ∙ ap negated (c.in-Some.ensures.told ∙ ap (ready_by shown) c.get.ensures)
+    ∙ sym (ap (ready_by shown) c.in-Not.is ∙ ready-Not shown c.in-Not.inside)
+
+pub told_at-returns-in-None-clause-untold : goal.told_at-returns-in-None-clause-untold
+told_at-returns-in-None-clause-untold g t c = λ none.
+    untold_as (g.V.View.view c.args.view.now) c.args.id _ _ (ap asks_names c.get.ensures ∙ sym (ap asks_names c.in-Not.is ∙ asks-Not c.in-Not.inside)) (c.in-None.ensures.untold refl)
+
+pub told_at-returns-in-Some-shows_at-clause-told : goal.told_at-returns-in-Some-shows_at-clause-told
+told_at-returns-in-Some-shows_at-clause-told g t c =
+    let shown : Shows = shown_at (g.V.View.view c.args.view.now) c.args.id in
+    c.of_bool.ensures ∙ ap of_bool c.in-Some-shows_at.ensures.told
+    ∙ sym (ap (ready_by shown) c.in-Asserts.is ∙ ready-Asserts shown c.in-Asserts.asserted)
+
+pub told_at-returns-in-None-shows_at-clause-untold : goal.told_at-returns-in-None-shows_at-clause-untold
+told_at-returns-in-None-shows_at-clause-untold g t c = λ none.
+    untold_as (g.V.View.view c.args.view.now) c.args.id _ _ (sym (ap asks_names c.in-Asserts.is ∙ asks-Asserts c.in-Asserts.asserted)) (c.in-None-shows_at.ensures.untold refl)
 
 pub told_at-returns-in-Unreadable-clause-told : goal.told_at-returns-in-Unreadable-clause-told
 told_at-returns-in-Unreadable-clause-told g t c =
