@@ -6,9 +6,7 @@ use ldap_replies::read_reply;
 use ldap_requests::read_request;
 use ldap_types::{Reply, Request};
 use repl_data::Update;
-use repl_wire::{
-    Start, Vector, WireFault, read_end, read_start, read_started, read_update,
-};
+use repl_wire::{Start, Vector, WireFault, read_end, read_start, read_started, read_update};
 use std::alloc::Global;
 use std::fmt::Write;
 
