@@ -1,5 +1,6 @@
 -- The truth of a filter, and of one that is ready, one equation for each kind of filter.
 use Rattle.std.proofs.Common.{◌≡◌, ℕ, Bool, true, List, ◌∷◌, Option, sym, ap, ◌∙◌, map}
+use Rattle.std.specs.List.{list_any}
 use Rattle.ldap_types.specs.declared.request.Filter.{Filter, fold-Filter, fold-roll-Filter, roll-Filter, map-Filter}
 use Rattle.ldap_types.specs.declared.request.Filter.TheVariants as filter
 use Rattle.ldap_types.specs.declared.request.Filter.TheVariants.{rolls-And, rolls-Or, rolls-Not, rolls-Equality, rolls-Substrings, rolls-AtLeast, rolls-AtMost, rolls-Present, rolls-Approximate, rolls-Extensible}
@@ -16,6 +17,8 @@ use Rattle.filter_truth.specs.declared.prepared.Prepared.TheOpen.{Prepared-F}
 use Rattle.filter_truth.specs.Three.{of_bool, negated, all_of, any_of}
 use Rattle.filter_truth.specs.Truth.{Shows, told, asserted, attr_of, compares, with_pieces, is_there, truth_step, truth_by}
 use Rattle.filter_truth.specs.Prepared.{passes, ready_step, ready_by}
+use Rattle.filter_truth.specs.Lent.{looks_at_names, names_step, asks_names}
+use Rattle.repl_data.proofs.Known.{any_map}
 
 -- ---- of a filter
 
@@ -76,3 +79,21 @@ ready-Unreadable shown = ap (λ (g : Prepared). ready_by shown g) (sym rolls-Unr
 
 pub ready-Nowhere : (shown : Shows) → ready_by shown ready.Nowhere ≡ No
 ready-Nowhere shown = ap (λ (g : Prepared). ready_by shown g) (sym rolls-Nowhere) ∙ ready-roll shown Prepared-F.Nowhere
+
+-- ---- whether it looks at the values that tell of lost names
+
+asks-roll : (layer : Prepared-F Prepared) → asks_names (roll-Prepared layer) ≡ names_step (map-Prepared Prepared Bool (λ p. asks_names p) layer)
+unfolding asks_names
+asks-roll layer = fold-roll-Prepared Bool names_step layer
+
+pub asks-And : (ps : List Prepared) → asks_names (ready.And ps) ≡ list_any asks_names ps
+asks-And ps = ap asks_names (sym (rolls-ready-And ps)) ∙ asks-roll (Prepared-F.And ps) ∙ any_map (λ (b : Bool). b) (λ p. asks_names p) ps
+
+pub asks-Or : (ps : List Prepared) → asks_names (ready.Or ps) ≡ list_any asks_names ps
+asks-Or ps = ap asks_names (sym (rolls-ready-Or ps)) ∙ asks-roll (Prepared-F.Or ps) ∙ any_map (λ (b : Bool). b) (λ p. asks_names p) ps
+
+pub asks-Not : (p : Prepared) → asks_names (ready.Not p) ≡ asks_names p
+asks-Not p = ap asks_names (sym (rolls-ready-Not p)) ∙ asks-roll (Prepared-F.Not p)
+
+pub asks-Asserts : (a : Assertion) → asks_names (ready.Asserts a) ≡ looks_at_names a
+asks-Asserts a = ap asks_names (sym (rolls-Asserts a)) ∙ asks-roll (Prepared-F.Asserts a)

@@ -1,5 +1,6 @@
--- What an entry shows is what it has of its own, and what the view derives: looked up without making it.
+-- What a present entry shows is what it has of its own, and what the view derives: looked up without making it.
 use Rattle.std.proofs.Common.{◌≡◌, ℕ, Bool, true, false, ◌||◌, ◌&&◌, cond, List, [], ◌∷◌, ◌++◌, Option, Some, None, refl, sym, ap, subst, ◌∙◌, append-nil}
+use Rattle.std.specs.Prelude.{if◌then◌else◌}
 use Rattle.std.specs.Prelude.{map, find, flat_map, codes}
 use Rattle.std.specs.List.{AllByRecursion, list_any}
 use Rattle.std.specs.Option.{option_map}
@@ -11,15 +12,21 @@ use Rattle.repl_data.specs.declared.csn.Uid.{Uid}
 use Rattle.repl_data.specs.declared.change.Attr.{Attr}
 use Rattle.repl_data.specs.declared.change.Val.{Val}
 use Rattle.repl_data.specs.declared.change.Shown.{Shown}
-use Rattle.repl_data.specs.Order.{bytes_cmp, bytes_eq, put_by, by_order, in_order_by}
+use Rattle.repl_data.specs.declared.view.Standing.{Standing}
+use Rattle.repl_data.specs.Order.{bytes_cmp, bytes_eq, uid_cmp, uid_eq, put_by, by_order, in_order_by}
 use Rattle.repl_data.specs.Ordered.{Rises}
 use Rattle.repl_data.specs.Text.{uid_text}
-use Rattle.repl_data.specs.View.{user, operational, id_val, conflicts, glue_class, glue_conflict, put_val, put_attr, vals_at, with_class, shown_present, key_named}
-use Rattle.repl_data.proofs.Orders.{bytes_total, bytes_exact}
+use Rattle.repl_data.specs.View.{DirectoryView, PresentEntry, present_at, present_shown, user, operational, with_operational, id_val, conflicts, naming_conflict, glue_class, put_val, put_attr, vals_at, with_class, lost_dn, dn_below, path_of, key_named}
+use Rattle.repl_data.specs.Lent.{own_of, standing, standing_of}
+use Rattle.repl_data.proofs.InOrder.{is_equal}
+use Rattle.repl_data.proofs.Orders.{bytes_total, bytes_exact, uid_exact}
 use Rattle.repl_data.proofs.KeyPlaces.{is_same}
-use Rattle.filter_truth.specs.declared.lent.Derived.{Derived}
-use Rattle.filter_truth.specs.Truth.{Shows, shows, vals_of, name_of}
-use Rattle.filter_truth.specs.Lent.{shows_glue, shows_derived, shows_lent}
+use Rattle.filter_truth.specs.declared.test.Test.{Test}
+use Rattle.filter_truth.specs.declared.test.Test.TheVariants.{Any, Compares, Pieces}
+use Rattle.filter_truth.specs.declared.test.Assertion.{Assertion}
+use Rattle.filter_truth.specs.Prepared.{passes}
+use Rattle.filter_truth.specs.Truth.{shows, vals_of, name_of}
+use Rattle.filter_truth.specs.Lent.{attrs_of, shown_at, lost_of, looks, looks_at_names, IsUntold}
 
 -- ---- texts
 
@@ -165,34 +172,40 @@ shows_class attrs r k test =
         ∙ ap (λ b. test (codes "glue") || b) (sym (shows_own attrs k test))
     by false e = sym (shows_own attrs k test)
 
--- ---- a present entry that has its name
+-- ---- what is derived beside the own attributes
 
-plain_shows : (id : Uid) (dn : List ℕ) (attrs : List Attr) (k : List ℕ) (test : List ℕ → Bool) → shows (shown_present id dn false None attrs).attrs k test ≡ shows_derived (map user attrs) (record { id = id; glue = false }) k test
-plain_shows id dn attrs k test =
+-- what the values of a conflict tell, where there are some
+abbrev told_by : List Val → (List ℕ → Bool) → Bool → Bool
+told_by [] test other = other
+told_by (v ∷ vs) test other = list_any (λ (w : Val). test w.key) (v ∷ vs)
+
+abbrev derived : Uid → List Val → List Shown
+derived id vals = operational (codes "nsuniqueid") (id_val id ∷ []) ++ operational (codes "nsds5replconflict") vals
+
+abbrev by_key : Uid → List Val → (List ℕ → Bool) → Bool → Bool → Bool → Bool
+by_key id vals test is_id is_conflict other = cond is_id (test (uid_text id)) (cond is_conflict (told_by vals test other) other)
+
+derived_shows : (id : Uid) (vals : List Val) (attrs : List Attr) (k : List ℕ) (test : List ℕ → Bool)
+    → shows (with_operational (derived id vals) attrs) k test ≡ by_key id vals test (bytes_eq k (codes "nsuniqueid")) (bytes_eq k (codes "nsds5replconflict")) (shows (map user attrs) k test)
+derived_shows id [] attrs k test =
     ap (λ o. list_any (λ (v : Val). test v.key) (vals_of o)) (find_in_order name_of k (operational (codes "nsuniqueid") (id_val id ∷ []) ++ map user attrs))
-    ∙ by (bytes_eq k (codes "nsuniqueid"))
-  where
-    by : (b : Bool) → list_any (λ (v : Val). test v.key) (vals_of (cond b (Some (record { attr = key_named (codes "nsuniqueid"); vals = id_val id ∷ []; operational = true })) (find (λ (s : Shown). bytes_eq k s.attr.name) (map user attrs))))
-        ≡ cond b (test (uid_text id)) (shows (map user attrs) k test)
-    by true = nothing_more (test (uid_text id))
-    by false = refl
-
-glue_shows : (id : Uid) (dn : List ℕ) (attrs : List Attr) → Rises attr_name attrs → (k : List ℕ) (test : List ℕ → Bool) → shows (shown_present id dn true None attrs).attrs k test ≡ shows_derived (map user attrs) (record { id = id; glue = true }) k test
-glue_shows id dn attrs r k test =
-    ap (λ o. list_any (λ (v : Val). test v.key) (vals_of o)) (find_in_order name_of k (operational (codes "nsuniqueid") (id_val id ∷ []) ++ (operational (codes "nsds5replconflict") (glue_conflict ∷ []) ++ map user (with_class glue_class attrs))))
     ∙ by (bytes_eq k (codes "nsuniqueid")) (bytes_eq k (codes "nsds5replconflict"))
-    ∙ ap (λ b. cond (bytes_eq k (codes "nsuniqueid")) (test (uid_text id)) (cond (bytes_eq k (codes "nsds5replconflict")) (test (codes "deletedentryhaschildren")) b)) (shows_class attrs r k test)
+  where
+    by : (b c : Bool) → list_any (λ (v : Val). test v.key) (vals_of (cond b (Some (record { attr = key_named (codes "nsuniqueid"); vals = id_val id ∷ []; operational = true })) (find (λ (s : Shown). bytes_eq k s.attr.name) (map user attrs))))
+        ≡ by_key id [] test b c (shows (map user attrs) k test)
+    by true c = nothing_more (test (uid_text id))
+    by false true = refl
+    by false false = refl
+derived_shows id (w ∷ ws) attrs k test =
+    ap (λ o. list_any (λ (v : Val). test v.key) (vals_of o)) (find_in_order name_of k (operational (codes "nsuniqueid") (id_val id ∷ []) ++ (operational (codes "nsds5replconflict") (w ∷ ws) ++ map user attrs)))
+    ∙ by (bytes_eq k (codes "nsuniqueid")) (bytes_eq k (codes "nsds5replconflict"))
   where
     by : (b c : Bool) → list_any (λ (v : Val). test v.key) (vals_of (cond b (Some (record { attr = key_named (codes "nsuniqueid"); vals = id_val id ∷ []; operational = true }))
-        (cond c (Some (record { attr = key_named (codes "nsds5replconflict"); vals = glue_conflict ∷ []; operational = true })) (find (λ (s : Shown). bytes_eq k s.attr.name) (map user (with_class glue_class attrs))))))
-        ≡ cond b (test (uid_text id)) (cond c (test (codes "deletedentryhaschildren")) (shows (map user (with_class glue_class attrs)) k test))
+        (cond c (Some (record { attr = key_named (codes "nsds5replconflict"); vals = w ∷ ws; operational = true })) (find (λ (s : Shown). bytes_eq k s.attr.name) (map user attrs)))))
+        ≡ by_key id (w ∷ ws) test b c (shows (map user attrs) k test)
     by true c = nothing_more (test (uid_text id))
-    by false true = nothing_more (test (codes "deletedentryhaschildren"))
+    by false true = refl
     by false false = refl
-
-shows_same : (id : Uid) (dn : List ℕ) (glue : Bool) (attrs : List Attr) → Rises attr_name attrs → (k : List ℕ) (test : List ℕ → Bool) → shows (shown_present id dn glue None attrs).attrs k test ≡ shows_derived (map user attrs) (record { id = id; glue = glue }) k test
-shows_same id dn false attrs r k test = plain_shows id dn attrs k test
-shows_same id dn true attrs r k test = glue_shows id dn attrs r k test
 
 rises_from : (attrs : List Attr) → Rises name_of (map user attrs) → Rises attr_name attrs
 rises_from [] r = tt
@@ -202,23 +215,159 @@ rises_from (a ∷ attrs) r = (all_from attrs r.0, rises_from attrs r.1)
     all_from [] h = tt
     all_from (b ∷ bs) h = (h.0, all_from bs h.1)
 
--- what is lent is what shows
-pub lent_shows : (own : List Shown) (d : Derived) (dn : List ℕ) (attrs : List Attr) → Rises name_of own → own ≡ map user attrs → shows_lent own (Some d) ≡ shows (shown_present d.id dn d.glue None attrs).attrs
-lent_shows own d dn attrs r e =
-    let p : shows_derived own d ≡ shows_derived (map user attrs) d = ap (λ (o : List Shown). shows_derived o d) e in
-    p ∙ (λ i k test. sym (shows_same d.id dn d.glue attrs (rises_from attrs (subst (Rises name_of) e r)) k test) i)
+-- ---- a present entry, by what its view lends
 
--- ---- glue, case by case
+found_id : (u : Uid) (e : PresentEntry) (es : List PresentEntry) → find (λ (d : PresentEntry). uid_eq d.id u) es ≡ Some e → e.id ≡ u
+found_id u e [] h = let g : ◌≡◌ {A = Option PresentEntry} None (Some e) = h in absurd cc
+found_id u e (d ∷ es) h = by (uid_eq d.id u) refl (found_id u e es) h
+  where
+    by : (b : Bool) → uid_eq d.id u ≡ b → (find (λ (d : PresentEntry). uid_eq d.id u) es ≡ Some e → e.id ≡ u) → cond b (Some d) (find (λ (d : PresentEntry). uid_eq d.id u) es) ≡ Some e → e.id ≡ u
+    by true k more g =
+        let same : d ≡ e = cc in
+        ap (λ (x : PresentEntry). x.id) (sym same) ∙ uid_exact d.id u (is_equal (uid_cmp d.id u) k)
+    by false k more g = more g
 
-module _ (own : List Shown) (key : List ℕ) (test : List ℕ → Bool) where
-  pub conflict_told : bytes_eq key (codes "nsds5replconflict") ≡ true → test (codes "deletedentryhaschildren") ≡ shows_glue own key test
-  conflict_told h = sym (ap (λ b. cond b (test (codes "deletedentryhaschildren")) (cond (bytes_eq key (codes "objectclass")) (test (codes "glue") || shows own key test) (shows own key test))) h)
+record Lends (v : DirectoryView) (u : Uid) (own : List Shown) (e : PresentEntry) : Type 0 where
+  there : present_at v u ≡ Some e
+  same : e.id ≡ u
+  kept : map user e.attrs ≡ own
 
-  no_conflict : (b : Bool) → bytes_eq key (codes "nsds5replconflict") ≡ false → bytes_eq key (codes "objectclass") ≡ b → cond b (test (codes "glue") || shows own key test) (shows own key test) ≡ shows_glue own key test
-  no_conflict b h g = sym (λ i. cond (h i) (test (codes "deletedentryhaschildren")) (cond (g i) (test (codes "glue") || shows own key test) (shows own key test)))
+nothing_is : {X : Type 0} (x : X) → ◌≡◌ {A = Option X} None (Some x) → ⊥
+nothing_is x e = absurd cc
 
-  pub class_told : bytes_eq key (codes "nsds5replconflict") ≡ false → bytes_eq key (codes "objectclass") ≡ true → (test (codes "glue") || shows own key test) ≡ shows_glue own key test
-  class_told h g = no_conflict true h g
+lends : (v : DirectoryView) (u : Uid) (own : List Shown) → own_of v u ≡ Some own → (e : PresentEntry) × Lends v u own e
+lends v u own h = by (present_at v u) refl h
+  where
+    by : (o : Option PresentEntry) → present_at v u ≡ o → option_map (λ (e : PresentEntry). map user e.attrs) o ≡ Some own → (e : PresentEntry) × Lends v u own e
+    by None k g = absurd (nothing_is own g)
+    by (Some e) k g = (e, record { there = k; same = found_id u e v.present k; kept = cc })
 
-  pub others_told : bytes_eq key (codes "nsds5replconflict") ≡ false → bytes_eq key (codes "objectclass") ≡ false → shows own key test ≡ shows_glue own key test
-  others_told h g = no_conflict false h g
+abbrev classed : Bool → List Attr → List Attr
+classed glue attrs = if glue then with_class glue_class attrs else attrs
+
+module _ (v : DirectoryView) (u : Uid) (own : List Shown) (rises : Rises name_of own) (lent : own_of v u ≡ Some own) where
+  e : PresentEntry
+  e = (lends v u own lent).0
+
+  seen : Lends v u own e
+  unfolding e lends
+  seen = (lends v u own lent).1
+
+  rise : Rises attr_name e.attrs
+  rise = rises_from e.attrs (subst (Rises name_of) (sym seen.kept) rises)
+
+  abbrev vals : List Val
+  vals = conflicts e.is_glue (lost_dn v e)
+
+  shown_by : (k : List ℕ) (test : List ℕ → Bool) → shown_at v u k test ≡ by_key u vals test (bytes_eq k (codes "nsuniqueid")) (bytes_eq k (codes "nsds5replconflict")) (shows (map user (classed e.is_glue e.attrs)) k test)
+  shown_by k test =
+      ap (λ (o : Option PresentEntry). shows (attrs_of (option_map (present_shown v) o)) k test) seen.there
+      ∙ derived_shows e.id vals (classed e.is_glue e.attrs) k test
+      ∙ ap (λ (w : Uid). by_key w vals test (bytes_eq k (codes "nsuniqueid")) (bytes_eq k (codes "nsds5replconflict")) (shows (map user (classed e.is_glue e.attrs)) k test)) seen.same
+
+  own_shows : (k : List ℕ) (test : List ℕ → Bool) → shows (map user e.attrs) k test ≡ shows own k test
+  own_shows k test = ap (λ (o : List Shown). shows o k test) seen.kept
+
+  -- glue has a class more
+  classed_shows : (g : Bool) (k : List ℕ) (test : List ℕ → Bool) → shows (map user (classed g e.attrs)) k test
+      ≡ cond (bytes_eq k (codes "objectclass")) ((g && test (codes "glue")) || shows own k test) (shows own k test)
+  classed_shows true k test =
+      shows_class e.attrs rise k test
+      ∙ ap (λ (s : Bool). cond (bytes_eq k (codes "objectclass")) (test (codes "glue") || s) s) (own_shows k test)
+  classed_shows false k test = own_shows k test ∙ by (bytes_eq k (codes "objectclass"))
+    where
+      by : (b : Bool) → shows own k test ≡ cond b (shows own k test) (shows own k test)
+      by true = refl
+      by false = refl
+
+  standing_there : standing_of v u ≡ Some (standing e)
+  standing_there = ap (option_map standing) seen.there
+
+  pub never_none : standing_of v u ≡ None → ⊥
+  never_none h = nothing_is (standing e) (sym h ∙ standing_there)
+
+  standing_is : (s : Standing) → standing_of v u ≡ Some s → standing e ≡ s
+  standing_is s h = let g : Some (standing e) ≡ Some s = sym standing_there ∙ h in cc
+
+  -- ---- case by case
+
+  module _ (k : List ℕ) (test : List ℕ → Bool) where
+    pub id_seen : bytes_eq k (codes "nsuniqueid") ≡ true → shown_at v u k test ≡ test (uid_text u)
+    id_seen h =
+        shown_by k test
+        ∙ ap (λ (b : Bool). by_key u vals test b (bytes_eq k (codes "nsds5replconflict")) (shows (map user (classed e.is_glue e.attrs)) k test)) h
+
+    pub other_seen : bytes_eq k (codes "nsuniqueid") ≡ false → bytes_eq k (codes "nsds5replconflict") ≡ false → bytes_eq k (codes "objectclass") ≡ false → shown_at v u k test ≡ shows own k test
+    other_seen i c o =
+        shown_by k test
+        ∙ (λ x. by_key u vals test (i x) (c x) (shows (map user (classed e.is_glue e.attrs)) k test))
+        ∙ classed_shows e.is_glue k test
+        ∙ ap (λ (b : Bool). cond b ((e.is_glue && test (codes "glue")) || shows own k test) (shows own k test)) o
+
+    class_by : bytes_eq k (codes "objectclass") ≡ true → shown_at v u k test ≡ ((e.is_glue && test (codes "glue")) || shows own k test)
+    class_by o =
+        let same : k ≡ codes "objectclass" = is_same k (codes "objectclass") o in
+        shown_by k test
+        ∙ (λ x. by_key u vals test (bytes_eq (same x) (codes "nsuniqueid")) (bytes_eq (same x) (codes "nsds5replconflict")) (shows (map user (classed e.is_glue e.attrs)) k test))
+        ∙ classed_shows e.is_glue k test
+        ∙ ap (λ (b : Bool). cond b ((e.is_glue && test (codes "glue")) || shows own k test) (shows own k test)) o
+
+    pub class_own : bytes_eq k (codes "objectclass") ≡ true → shows own k test ≡ true → shown_at v u k test ≡ true
+    class_own o h = class_by o ∙ ap (λ (b : Bool). (e.is_glue && test (codes "glue")) || b) h ∙ by (e.is_glue && test (codes "glue"))
+      where
+        by : (b : Bool) → (b || true) ≡ true
+        by true = refl
+        by false = refl
+
+    pub class_none : bytes_eq k (codes "objectclass") ≡ true → shows own k test ≡ false → test (codes "glue") ≡ false → shown_at v u k test ≡ false
+    class_none o h t = class_by o ∙ (λ x. (e.is_glue && t x) || h x) ∙ by e.is_glue
+      where
+        by : (b : Bool) → ((b && false) || false) ≡ false
+        by true = refl
+        by false = refl
+
+    pub class_glue : (s : Standing) → standing_of v u ≡ Some s → bytes_eq k (codes "objectclass") ≡ true → shows own k test ≡ false → test (codes "glue") ≡ true → shown_at v u k test ≡ s.glue
+    class_glue s g o h t = class_by o ∙ (λ x. (e.is_glue && t x) || h x) ∙ by e.is_glue ∙ ap (λ (x : Standing). x.glue) (standing_is s g)
+      where
+        by : (b : Bool) → ((b && true) || false) ≡ b
+        by true = refl
+        by false = refl
+
+    conflict_by : bytes_eq k (codes "nsds5replconflict") ≡ true → shown_at v u k test ≡ told_by vals test (shows (map user (classed e.is_glue e.attrs)) k test)
+    conflict_by c =
+        let same : k ≡ codes "nsds5replconflict" = is_same k (codes "nsds5replconflict") c in
+        shown_by k test
+        ∙ (λ x. by_key u vals test (bytes_eq (same x) (codes "nsuniqueid")) (c x) (shows (map user (classed e.is_glue e.attrs)) k test))
+
+    abbrev tells : Bool → Bool → Bool
+    tells glue lost = told_by (conflicts glue (if lost then Some (dn_below v (e.name ∷ path_of v e.parent)) else None)) test (shows (map user (classed glue e.attrs)) k test)
+
+    conflict_tells : (s : Standing) → standing_of v u ≡ Some s → bytes_eq k (codes "nsds5replconflict") ≡ true → shown_at v u k test ≡ tells s.glue s.lost
+    conflict_tells s g c = conflict_by c ∙ (λ x. tells (standing_is s g x).glue (standing_is s g x).lost)
+
+    pub lost_seen : (s : Standing) → standing_of v u ≡ Some s → bytes_eq k (codes "nsds5replconflict") ≡ true → s.lost ≡ true → ((value : List ℕ) → test value ≡ true) → shown_at v u k test ≡ true
+    lost_seen s g c l all = conflict_tells s g c ∙ ap (tells s.glue) l ∙ by s.glue
+      where
+        first : (b c : Bool) → b ≡ true → (b || c) ≡ true
+        first true c h = refl
+        first false c h = absurd cc
+
+        by : (b : Bool) → tells b true ≡ true
+        by true = first (test (codes "deletedentryhaschildren")) _ (all (codes "deletedentryhaschildren"))
+        by false = first (test (naming_conflict (dn_below v (e.name ∷ path_of v e.parent))).key) false (all (naming_conflict (dn_below v (e.name ∷ path_of v e.parent))).key)
+
+    pub glue_seen : (s : Standing) → standing_of v u ≡ Some s → bytes_eq k (codes "nsds5replconflict") ≡ true → s.lost ≡ false → s.glue ≡ true → shown_at v u k test ≡ test (codes "deletedentryhaschildren")
+    glue_seen s g c l h = conflict_tells s g c ∙ (λ x. tells (h x) (l x)) ∙ nothing_more (test (codes "deletedentryhaschildren"))
+
+    pub plain_seen : (s : Standing) → standing_of v u ≡ Some s → bytes_eq k (codes "nsds5replconflict") ≡ true → s.lost ≡ false → s.glue ≡ false → shown_at v u k test ≡ shows own k test
+    plain_seen s g c l h = conflict_tells s g c ∙ (λ x. tells (h x) (l x)) ∙ own_shows k test
+
+-- a name that is one is no other one
+pub untold : (v : DirectoryView) (u : Uid) (s : Standing) (a : Assertion) → standing_of v u ≡ Some s → s.lost ≡ true → bytes_eq a.attr.name (codes "nsds5replconflict") ≡ true → looks a.test ≡ true → IsUntold v u (looks_at_names a)
+untold v u s a g l n t = record { lost = ap lost_of g ∙ l; asked = λ x. n x && t x }
+
+-- a test that looks at no value holds of each
+pub unseen : (t : Test) (key : List ℕ) → looks t ≡ false → (value : List ℕ) → passes key t value ≡ true
+unseen Any key h value = refl
+unseen (Compares how k) key h value = absurd cc
+unseen (Pieces first middle last) key h value = absurd cc

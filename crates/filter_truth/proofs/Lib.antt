@@ -3,3 +3,4 @@ pub mod Equations
 pub mod Greedy
 pub mod LentShows
 pub mod Names
+pub mod Untold

@@ -5,6 +5,7 @@
 #![tactic(auto)]
 
 mod found;
+mod kept;
 mod laws;
 mod lent;
 mod pieces;
@@ -15,7 +16,6 @@ mod three;
 mod whole;
 
 pub use laws::entry_laws;
-pub use lent::Derived;
 pub use prepared::{Prepared, PreparedList, prepare};
 pub use test::{Assertion, Comparison, Test};
 pub use three::Truth;

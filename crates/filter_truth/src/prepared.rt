@@ -1,16 +1,13 @@
 //! A filter made ready, and its truth.
 
-ghost use Rattle.std.specs.Prelude.{◌≡◌, ℕ, List, map, IfOk, None};
-ghost use Rattle.repl_data.specs.declared.change.Attr.{Attr};
+ghost use Rattle.std.specs.Prelude.{◌≡◌, List, map, IfOk};
 ghost use Rattle.repl_data.specs.Ordered.{Rises};
-ghost use Rattle.repl_data.specs.View.{user, shown_present};
 ghost use Rattle.ldap_types.specs.declared.request.Filter.{Filter};
 ghost use Rattle.filter_truth.specs.Three.{of_bool, all_of, any_of};
-ghost use Rattle.filter_truth.specs.Truth.{Shows, name_of, told, is_there, attr_of, asserted, compares, with_pieces, truth, truth_by};
+ghost use Rattle.filter_truth.specs.Truth.{Shows, name_of, shows, told, is_there, attr_of, asserted, compares, with_pieces, truth, truth_by};
 ghost use Rattle.filter_truth.specs.Prepared.{maybe_meant, ready_by, StandsFor};
-ghost use Rattle.filter_truth.specs.Lent.{shows_lent};
 
-use crate::lent::{Derived, shows_lent};
+use crate::lent::shows;
 use crate::reading::{attr_of, comparison, substrings};
 use crate::test::{Assertion, Comparison, Test};
 use crate::three::{Truth, both, either, negated, of_bool};
@@ -110,15 +107,15 @@ fn prepare_all(alloc: Global, filters: &[Filter]) -> Result<PreparedList, NoMemo
 }
 
 #[cycle(told)]
-fn told(filter: &Prepared, own: &[Shown], derived: Option<Derived>) -> Truth
-    requires { Rises name_of own.now }
-    ensures { result ≡ ready_by (shows_lent own.now derived) filter.now }
+fn told(filter: &Prepared, attrs: &[Shown]) -> Truth
+    requires { Rises name_of attrs.now }
+    ensures { result ≡ ready_by (shows attrs.now) filter.now }
 {
     match filter {
-        Prepared::And(inside) => all_told(inside.as_slice(), own, derived),
-        Prepared::Or(inside) => any_told(inside.as_slice(), own, derived),
-        Prepared::Not(inside) => negated(told(inside.get(), own, derived)),
-        Prepared::Asserts(asserted) => of_bool(shows_lent(own, derived, asserted)),
+        Prepared::And(inside) => all_told(inside.as_slice(), attrs),
+        Prepared::Or(inside) => any_told(inside.as_slice(), attrs),
+        Prepared::Not(inside) => negated(told(inside.get(), attrs)),
+        Prepared::Asserts(asserted) => of_bool(shows(attrs, asserted)),
         Prepared::Unreadable => Truth::Undefined,
         Prepared::Nowhere => Truth::No,
     }
@@ -126,13 +123,13 @@ fn told(filter: &Prepared, own: &[Shown], derived: Option<Derived>) -> Truth
 
 /// Whether all of them hold. After the first No none is looked at.
 #[cycle(told)]
-fn all_told(filters: &[Prepared], own: &[Shown], derived: Option<Derived>) -> Truth
-    requires { Rises name_of own.now }
-    ensures { result ≡ all_of (map (ready_by (shows_lent own.now derived)) filters.now) }
+fn all_told(filters: &[Prepared], attrs: &[Shown]) -> Truth
+    requires { Rises name_of attrs.now }
+    ensures { result ≡ all_of (map (ready_by (shows attrs.now)) filters.now) }
 {
     let mut truth = Truth::Yes;
     for filter in filters {
-        truth = both(truth, told(filter, own, derived));
+        truth = both(truth, told(filter, attrs));
         if truth == Truth::No {
             return Truth::No;
         }
@@ -142,13 +139,13 @@ fn all_told(filters: &[Prepared], own: &[Shown], derived: Option<Derived>) -> Tr
 
 /// Whether one of them holds. After the first Yes none is looked at.
 #[cycle(told)]
-fn any_told(filters: &[Prepared], own: &[Shown], derived: Option<Derived>) -> Truth
-    requires { Rises name_of own.now }
-    ensures { result ≡ any_of (map (ready_by (shows_lent own.now derived)) filters.now) }
+fn any_told(filters: &[Prepared], attrs: &[Shown]) -> Truth
+    requires { Rises name_of attrs.now }
+    ensures { result ≡ any_of (map (ready_by (shows attrs.now)) filters.now) }
 {
     let mut truth = Truth::No;
     for filter in filters {
-        truth = either(truth, told(filter, own, derived));
+        truth = either(truth, told(filter, attrs));
         if truth == Truth::Yes {
             return Truth::Yes;
         }
@@ -163,16 +160,6 @@ impl Prepared {
         requires { Rises name_of attrs.now }
         ensures { (f : Filter) → StandsFor self.now f → result ≡ truth f attrs.now }
     {
-        told(self, attrs, None)
-    }
-
-    /// The truth of the filter for a present entry that has its name, by its user attributes as they are kept and
-    /// what its view derives. At the cost of `truth`.
-    pub fn truth_of(&self, own: &[Shown], derived: Derived) -> Truth
-        requires { Rises name_of own.now }
-        ensures { (f : Filter) (dn : List ℕ) (attrs : List Attr) → StandsFor self.now f → own.now ≡ map user attrs
-            → result ≡ truth f (shown_present derived.id dn derived.glue None attrs).attrs }
-    {
-        told(self, own, Some(derived))
+        told(self, attrs)
     }
 }

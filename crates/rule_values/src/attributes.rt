@@ -28,8 +28,8 @@ fn put_new(before: ValSet, val: Val) -> Result<ValSet, ValueFault>
     ensures { Gives result (put_new val before) }
 {
     let mut vals = before;
-    refuse_if(vals.has(val.key.as_slice()), Refusal::ListedTwice)?;
-    vals.put(val)?;
+    let was = vals.put(val)?;
+    refuse_if(was, Refusal::ListedTwice)?;
     Ok(vals)
 }
 

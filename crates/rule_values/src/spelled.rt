@@ -36,13 +36,14 @@ pub(crate) fn has(spelled: &Spelled, key: &[u8]) -> bool
     spelled.contains_key(key)
 }
 
-/// Puts a value, instead of one of the same key.
-pub(crate) fn put(spelled: &mut Spelled, val: Val) -> Result<(), NoMemory>
-    ensures { OnOk result (vals_of spelled.new.entries ≡ put_val val (vals_of spelled.old.entries)) }
+/// Puts a value, instead of one of the same key, and answers whether there was one. One look-up.
+pub(crate) fn put(spelled: &mut Spelled, val: Val) -> Result<bool, NoMemory>
+    ensures put { OnOk result (vals_of spelled.new.entries ≡ put_val val (vals_of spelled.old.entries)) }
+    ensures was { IfOk result (λ was. was ≡ has_key val.key (vals_of spelled.old.entries)) }
 {
     let Val { key, spelled: text } = val;
-    spelled.insert(key.into_vec(), text)?;
-    Ok(())
+    let old = spelled.insert(key.into_vec(), text)?;
+    Ok(old.is_some())
 }
 
 /// Takes out the value of this key.

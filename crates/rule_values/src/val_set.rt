@@ -60,9 +60,10 @@ impl ValSet {
         has(&self.spelled, key)
     }
 
-    /// Puts a value, instead of one of the same key.
-    pub(crate) fn put(&mut self, val: Val) -> Result<(), NoMemory>
-        ensures { OnOk result (self.new ≡ put_val val self.old) }
+    /// Puts a value, instead of one of the same key, and answers whether there was one.
+    pub(crate) fn put(&mut self, val: Val) -> Result<bool, NoMemory>
+        ensures put { OnOk result (self.new ≡ put_val val self.old) }
+        ensures was { IfOk result (λ was. was ≡ has_key val.key self.old) }
     {
         put(&mut self.spelled, val)
     }

@@ -7,16 +7,18 @@ use Rattle.repl_data.specs.declared.csn.Uid.{Uid}
 use Rattle.repl_data.specs.declared.change.Attr.{Attr}
 use Rattle.repl_data.specs.declared.change.Shown.{Shown}
 use Rattle.repl_data.specs.declared.change.ShownEntry.{ShownEntry}
-use Rattle.repl_data.specs.declared.view.Standing.{Standing}
 use Rattle.repl_data.specs.Order.{uid_cmp, uid_eq, bytes_cmp}
 use Rattle.repl_data.specs.Ordered.{Rises}
-use Rattle.repl_data.specs.View.{DirectoryView, PresentEntry, present_at, entry_of, present_shown, shown_present, user, lost_name, lost_dn, dn_below, dn_of, path_of}
-use Rattle.repl_data.specs.Lent.{own_of, standing_of, standing}
+use Rattle.repl_data.specs.View.{DirectoryView, PresentEntry, present_at, entry_of, present_shown, user}
+use Rattle.repl_data.specs.Lent.{own_of}
 use Rattle.repl_data.proofs.Orders.{uid_exact}
 use Rattle.repl_data.proofs.InOrder.{is_equal}
 use Rattle.repl_data.proofs.Loops.{all_map}
 use Rattle.ldap_types.specs.declared.request.Filter.{Filter}
-use Rattle.filter_truth.specs.Truth.{name_of}
+use Rattle.filter_truth.specs.declared.three.Truth.{Truth}
+use Rattle.filter_truth.specs.Three.{is_yes}
+use Rattle.filter_truth.specs.Truth.{name_of, shows, truth_by}
+use Rattle.filter_truth.specs.Lent.{attrs_of, shown_at}
 use Rattle.search_core.specs.Hits.{is_meant, is_match}
 use Rattle.search_core.specs.Tree.{attr_name, HasRisingAttrs}
 
@@ -58,17 +60,6 @@ own_rises v u own all h = by (present_at v u) refl h
         let same : map user e.attrs ≡ own = cc in
         subst (Rises name_of) same (user_rises e.attrs (found_one HasRisingAttrs u e v.present all k).0)
 
-all_true : (es : List PresentEntry) → AllByRecursion (λ (e : PresentEntry). Unit {0}) es
-all_true [] = tt
-all_true (e ∷ es) = (tt, all_true es)
-
-pub standing_none : (v : DirectoryView) (u : Uid) → standing_of v u ≡ None → entry_of v u ≡ None
-standing_none v u h = by (present_at v u) h
-  where
-    by : (o : Option PresentEntry) → option_map standing o ≡ None → option_map (present_shown v) o ≡ None
-    by None g = refl
-    by (Some e) g = absurd (nothing_is (standing e) (sym g))
-
 pub own_none : (v : DirectoryView) (u : Uid) → own_of v u ≡ None → entry_of v u ≡ None
 own_none v u h = by (present_at v u) h
   where
@@ -76,17 +67,10 @@ own_none v u h = by (present_at v u) h
     by None g = refl
     by (Some e) g = absurd (nothing_is (map user e.attrs) (sym g))
 
--- an entry that has its name matches by what is lent of it
-pub lent_match : (v : DirectoryView) (f : Filter) (u : Uid) (s : Standing) (own : List Shown) (answer : Bool) → standing_of v u ≡ Some s → s.lost ≡ false → own_of v u ≡ Some own
-    → ((dn : List ℕ) (attrs : List Attr) → own ≡ map user attrs → answer ≡ is_meant f (shown_present u dn s.glue None attrs)) → answer ≡ is_match v f u
-lent_match v f u s own answer hs had ho step = by (present_at v u) refl hs ho
+-- an entry of which something is lent matches by what it shows
+pub lent_match : (v : DirectoryView) (f : Filter) (u : Uid) (own : List Shown) (t : Truth) → own_of v u ≡ Some own → t ≡ truth_by (shown_at v u) f → is_yes t ≡ is_match v f u
+lent_match v f u own t lent h = ap is_yes h ∙ by (present_at v u) lent
   where
-    by : (o : Option PresentEntry) → present_at v u ≡ o → option_map standing o ≡ Some s → option_map (λ (e : PresentEntry). map user e.attrs) o ≡ Some own → answer ≡ matching f (option_map (present_shown v) o)
-    by None k g h = absurd (nothing_is s g)
-    by (Some e) k g h =
-        let stands : standing e ≡ s = cc in
-        let owned : map user e.attrs ≡ own = cc in
-        let id : e.id ≡ u = (found_one (λ (e : PresentEntry). Unit {0}) u e v.present (all_true v.present) k).1 in
-        let kept : lost_dn v e ≡ None = ap (λ b. cond b (Some (dn_below v (e.name ∷ path_of v e.parent))) None) (ap (λ (x : Standing). x.lost) stands ∙ had) in
-        step (dn_of v e.id) e.attrs (sym owned)
-        ∙ (λ i. is_meant f (shown_present (sym id i) (dn_of v e.id) (sym (ap (λ (x : Standing). x.glue) stands) i) (sym kept i) e.attrs))
+    by : (o : Option PresentEntry) → option_map (λ (e : PresentEntry). map user e.attrs) o ≡ Some own → is_yes (truth_by (shows (attrs_of (option_map (present_shown v) o))) f) ≡ matching f (option_map (present_shown v) o)
+    by None k = absurd (nothing_is own k)
+    by (Some e) k = refl

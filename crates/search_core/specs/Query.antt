@@ -1,5 +1,5 @@
 -- A SEARCH THAT WAS READ, and the request that it was read of.
-use Rattle.std.specs.Prelude.{◌≡◌, List, [], if◌then◌else◌}
+use Rattle.std.specs.Prelude.{◌≡◌, ◌⊎◌, true, List, [], if◌then◌else◌}
 use Rattle.std.specs.Option.{option_to_list}
 use Rattle.repl_data.specs.declared.csn.Uid.{Uid}
 use Rattle.repl_data.specs.declared.change.ShownEntry.{ShownEntry}
@@ -7,6 +7,7 @@ use Rattle.repl_data.specs.View.{DirectoryView, entry_of}
 use Rattle.ldap_types.specs.declared.request.SearchRequest.{SearchRequest}
 use Rattle.ldap_types.specs.declared.request.Filter.{Filter}
 use Rattle.filter_truth.specs.Prepared.{StandsFor}
+use Rattle.filter_truth.specs.Lent.{asks_names, IsUntold}
 use Rattle.search_core.specs.declared.query.Query.{Query}
 use Rattle.search_core.specs.Selected.{Chooses}
 use Rattle.search_core.specs.Hits.{is_match}
@@ -19,3 +20,8 @@ pub record Asks (q : Query) (r : SearchRequest) : Type 0 where
 -- what one entry gives
 abbrev pub gives : DirectoryView → Filter → Uid → List ShownEntry
 gives v f u = if is_match v f u then option_to_list (entry_of v u) else []
+
+-- of which entries memory is taken: of those of which the filter says Yes, and of one that lost its name where the
+-- filter looks at the values that tell of it
+abbrev pub MayTake : DirectoryView → Query → Uid → Type 0
+MayTake v q u = (f : Filter) → StandsFor q.filter f → (is_match v f u ≡ true) ⊎ IsUntold v u (asks_names q.filter)

@@ -1,17 +1,17 @@
 //! Whether a filter says Yes of an entry.
 
-ghost use Rattle.std.specs.Prelude.{◌≡◌, ℕ, List, map, IfOk, None};
-ghost use Rattle.repl_data.specs.declared.change.Attr.{Attr};
+ghost use Rattle.std.specs.Prelude.{◌≡◌, Some, None, IfSome, IfOk, OnErr};
 ghost use Rattle.repl_data.specs.Ordered.{Rises};
-ghost use Rattle.repl_data.specs.View.{user, shown_present};
+ghost use Rattle.repl_data.specs.Lent.{own_of};
 ghost use Rattle.ldap_types.specs.declared.request.Filter.{Filter};
 ghost use Rattle.filter_truth.specs.Three.{is_yes};
 ghost use Rattle.filter_truth.specs.Truth.{name_of};
 ghost use Rattle.filter_truth.specs.Prepared.{StandsFor};
+ghost use Rattle.filter_truth.specs.Lent.{asks_names, IsUntold};
 ghost use Rattle.search_core.specs.Hits.{is_meant, is_match};
 ghost use Rattle.search_core.specs.Tree.{IsTree};
 
-use filter_truth::{Derived, Prepared, Truth};
+use filter_truth::{Prepared, Truth};
 use repl_data::{NoMemory, Shown, ShownEntry, Uid, View};
 use std::alloc::Global;
 
@@ -29,8 +29,8 @@ pub(crate) fn is_meant(filter: &Prepared, entry: &ShownEntry) -> bool
     is_yes(filter.truth(entry.attrs.as_slice()))
 }
 
-/// The same of a present entry that lost its name, which has to be made for it.
-fn is_lost_match<V: View>(
+/// The same of a present entry that is made for it.
+fn is_made_match<V: View>(
     alloc: Global,
     view: &V,
     filter: &Prepared,
@@ -44,15 +44,21 @@ fn is_lost_match<V: View>(
     }
 }
 
-/// The same of one that has its name, by what the view lends of it.
-fn is_lent_match(filter: &Prepared, own: &[Shown], id: Uid, glue: bool) -> bool
-    requires { Rises name_of own.now }
-    ensures { (f : Filter) (dn : List ℕ) (attrs : List Attr) → StandsFor filter.now f → own.now ≡ map user attrs → result ≡ is_meant f (shown_present id dn glue None attrs) }
+/// The same of a present entry by what the view lends of it, if that tells it. Takes no memory.
+fn is_lent_match<V: View>(view: &V, filter: &Prepared, id: Uid, own: &[Shown]) -> Option<bool>
+    requires rises { Rises name_of own.now }
+    requires lent { own_of (V.view view.now) id ≡ Some own.now }
+    ensures told { IfSome result (λ yes. (f : Filter) → StandsFor filter.now f → yes ≡ is_match (V.view view.now) f id) }
+    ensures untold { result ≡ None → IsUntold (V.view view.now) id (asks_names filter.now) }
 {
-    is_yes(filter.truth_of(own, Derived { id, glue }))
+    match filter.truth_at(view, id, own) {
+        Some(truth) => Some(is_yes(truth)),
+        None => None,
+    }
 }
 
-/// Whether the filter says Yes of a present entry. Takes no memory, but for an entry that lost its name.
+/// Whether the filter says Yes of a present entry. Takes memory only where an entry lost its name and the filter looks
+/// at the values that tell of it.
 pub(crate) fn is_match<V: View>(
     alloc: Global,
     view: &V,
@@ -60,16 +66,16 @@ pub(crate) fn is_match<V: View>(
     id: Uid,
 ) -> Result<bool, NoMemory>
     requires { IsTree (V.view view.now) }
-    ensures { IfOk result (λ yes. (f : Filter) → StandsFor filter.now f → yes ≡ is_match (V.view view.now) f id) }
+    ensures told { IfOk result (λ yes. (f : Filter) → StandsFor filter.now f → yes ≡ is_match (V.view view.now) f id) }
+
+    // Memory is wanted only there.
+    ensures memory { OnErr result (IsUntold (V.view view.now) id (asks_names filter.now)) }
 {
-    let Some(standing) = view.standing(id) else {
+    let Some(own) = view.own(id) else {
         return Ok(false);
     };
-    if standing.lost {
-        return is_lost_match(alloc, view, filter, id);
-    }
-    match view.own(id) {
-        Some(own) => Ok(is_lent_match(filter, own, id, standing.glue)),
-        None => Ok(false),
+    match is_lent_match(view, filter, id, own) {
+        Some(yes) => Ok(yes),
+        None => is_made_match(alloc, view, filter, id),
     }
 }

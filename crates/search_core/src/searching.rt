@@ -167,8 +167,9 @@ fn told(alloc: Global, hits: Hits) -> Found
 /// in order of id, and then the entry of the update vector, whose texts are given by `vector`. Each is named by its
 /// id, directly below the suffix.
 ///
-/// Visits the entries in scope, up to the limit, and no others; a present entry that is not answered takes no memory
-/// unless it lost its name. The time limit and the handling of aliases are ignored.
+/// Visits the entries in scope, up to the limit, and no others; a present entry that is not answered takes no memory,
+/// unless it lost its name and the filter looks at the values of `nsds5ReplConflict`. The time limit and the handling
+/// of aliases are ignored.
 pub fn search<V: View>(
     alloc: Global,
     view: &V,

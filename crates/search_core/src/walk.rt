@@ -1,6 +1,6 @@
 //! The walk over the present entries in scope.
 
-ghost use Rattle.std.specs.Prelude.{◌≡◌, ◌++◌, List, true, flat_map, IfOk, OnOk};
+ghost use Rattle.std.specs.Prelude.{◌≡◌, ◌++◌, List, true, flat_map, IfOk, OnOk, OnErr};
 ghost use Rattle.repl_data.specs.declared.change.ShownEntry.{ShownEntry};
 ghost use Rattle.repl_data.specs.View.{children_of};
 ghost use Rattle.ldap_types.specs.declared.request.SearchRequest.{SearchRequest};
@@ -8,7 +8,7 @@ ghost use Rattle.view_walk.specs.Tree.{is_present};
 ghost use Rattle.view_walk.specs.Walk.{subtree};
 ghost use Rattle.search_core.specs.Tree.{IsTree};
 ghost use Rattle.search_core.specs.Search.{told, present_found};
-ghost use Rattle.search_core.specs.Query.{Asks, gives};
+ghost use Rattle.search_core.specs.Query.{Asks, gives, MayTake};
 
 use crate::found::Hits;
 use crate::matching::is_match;
@@ -18,7 +18,8 @@ use repl_data::{NoMemory, Uid, View};
 use std::alloc::Global;
 use view_walk::Walk;
 
-/// Takes a present entry if the filter says Yes of it.
+/// Takes a present entry if the filter says Yes of it. Takes no memory for another one, but where it lost its name and
+/// the filter looks at the values that tell of it.
 fn visit<V: View>(
     alloc: Global,
     view: &V,
@@ -27,7 +28,10 @@ fn visit<V: View>(
     hits: &mut Hits,
 ) -> Result<(), NoMemory>
     requires { IsTree (V.view view.now) }
-    ensures { OnOk result ((r : SearchRequest) (all : List ShownEntry) → Asks query.now r → hits.old ≡ told r all → hits.new ≡ told r (all ++ gives (V.view view.now) r.filter id)) }
+    ensures takes { OnOk result ((r : SearchRequest) (all : List ShownEntry) → Asks query.now r → hits.old ≡ told r all → hits.new ≡ told r (all ++ gives (V.view view.now) r.filter id)) }
+
+    // Where memory runs out, it was taken for an entry of which the filter says Yes, or to tell the name that one lost.
+    ensures memory { OnErr result (MayTake (V.view view.now) query.now id) }
 {
     if is_match(alloc, view, &query.filter, id)? {
         if let Some(entry) = view.entry(alloc, id)? {

@@ -1,6 +1,7 @@
-use Rattle.std.proofs.Common.{ap, ◌∙◌}
-use Rattle.filter_truth.specs.Three.{is_yes}
+use Rattle.std.proofs.Common.{◌∙◌}
+use Rattle.search_core.proofs.Matches.{lent_match}
 use Rattle.search_core.proofs.matching.is_lent_match.Goals as goal
 
-pub returns : goal.returns
-returns c = λ f dn attrs s e. c.is_yes.ensures ∙ ap is_yes (c.truth_of.ensures f dn attrs s e)
+pub returns-in-Some-clause-told : goal.returns-in-Some-clause-told
+returns-in-Some-clause-told g c = λ f s.
+    c.is_yes.ensures ∙ lent_match (g.V.View.view c.args.view.now) f c.args.id c.args.own.now c.in-Some.truth c.requires.lent (c.in-Some.ensures.told f s)
