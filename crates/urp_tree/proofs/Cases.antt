@@ -1,6 +1,6 @@
 -- WHAT A CHANGE DOES TO THE CHILDREN: an entry that is put among the facts moves, goes, comes or rests.
 use Rattle.std.proofs.Common.{◌≡◌, suc, ◌≤◌, List, [], ◌∷◌, ◌++◌, length, Bool, true, false, cond, not, refl, sym, ap, subst, ◌∙◌, inl, inr, arith}
-use Rattle.std.specs.Prelude.{◌&&◌, ◌||◌}
+use Rattle.std.specs.Prelude.{◌⊎◌, ◌&&◌, ◌||◌}
 use Rattle.std.specs.List.{AllByRecursion}
 use Rattle.std.specs.Ordering.{is_eq}
 use Rattle.std.specs.declared.cmp.Ordering.TheVariants.{Less, Equal, Greater}
@@ -15,14 +15,14 @@ use Rattle.urp_tree.specs.declared.step.Step.TheVariants.{Enter, Leave}
 use Rattle.urp_tree.specs.Index.{stands_below, is_among_children, put_child, without_child, HasRisingIds, IsOneOf}
 use Rattle.urp_tree.specs.Walk.{child_of, stepped}
 use Rattle.urp_tree.specs.Known.{put_fact, HasRisingFacts}
-use Rattle.urp_tree.specs.Climb.{count_below, IsChain, leaves, enters, AreTrue, AreApart, IsWay}
+use Rattle.urp_tree.specs.Climb.{count_below, IsChain, leaves, enters, AreTrue, AreApart, AreLone, IsMove, IsBehindLeave, IsWay}
 use Rattle.urp_tree.proofs.Children.{IsBelowAll, put_back, without_fresh}
 use Rattle.urp_tree.proofs.Walks.{stepped_last}
 use Rattle.urp_tree.proofs.Stays.{any_below}
 use Rattle.urp_tree.proofs.Shield.{shown_by, shown_by_live}
 use Rattle.urp_tree.proofs.Stays.{Replaces, children_stay}
 use Rattle.urp_tree.proofs.Levels.{held, StandsAt, AllAbove, AllBelow, the_one, id_at, self_put, own_none, lower_none, any_tail, same_shown, any_held, unheld, shown_at, held_shows, goes_up, none_held, is_held, not_held, self_eq, at_above, greater, put_step, all_above_at}
-use Rattle.urp_tree.proofs.Ways.{AreRootsLive, any_swapped, without_put, rises_without, rising_shown, few_shown, few_without, none_among, below_shown, among_without, count_less, count_kept, true_last, apart_last, apart_leaves, below_parent, first_of_chain, swap_less, rises_after, below_after, few, stands, down, up}
+use Rattle.urp_tree.proofs.Ways.{AreRootsLive, any_swapped, without_put, rises_without, rising_shown, few_shown, few_without, none_among, below_shown, among_without, count_less, count_kept, true_last, apart_last, apart_leaves, below_parent, first_of_chain, swap_less, rises_after, below_after, few, stands, down, up, chain_under, behind_leave, lone_enters}
 
 decide : {G : Type 0} (b : Bool) → (b ≡ true → G) → (b ≡ false → G) → G
 decide true f g = f refl
@@ -155,16 +155,17 @@ module _ (e : EntryFacts) (fs : List EntryFacts) (rises : HasRisingFacts fs) (be
   few_here : length here ≤ suc (length fs)
   few_here = omega (arith, few_shown is_live fs)
 
-  by_way : (ss : List Step) → stepped ss here ≡ shown_by is_live there → AreTrue (suc (length fs)) here ss → AreApart ss → IsWay (suc (length fs)) fs e ss
-  by_way ss l t a = record {
+  by_way : (ss : List Step) → stepped ss here ≡ shown_by is_live there → AreTrue (suc (length fs)) here ss → AreApart ss → AreLone ss ⊎ IsMove ss → IsWay (suc (length fs)) fs e ss
+  by_way ss l t a f = record {
     leads = ap (stepped ss) (sym (shown_by_live fs)) ∙ l ∙ shown_by_live there;
     trues = subst (λ cs. AreTrue (suc (length fs)) cs ss) (shown_by_live fs) t;
     apart = a;
+    form = f;
   }
 
   -- nothing but the values changes
   pub same_way : (d : EntryFacts) → StandsAt e.id d fs → child_of e ≡ child_of d → IsWay (suc (length fs)) fs e []
-  same_way d at same = record { leads = sym (children_stay e fs (replaces fs at)); trues = tt; apart = tt }
+  same_way d at same = record { leads = sym (children_stay e fs (replaces fs at)); trues = tt; apart = tt; form = inl tt }
     where
       replaces : (es : List EntryFacts) → StandsAt e.id d es → Replaces e es
       replaces [] h = h
@@ -180,7 +181,7 @@ module _ (e : EntryFacts) (fs : List EntryFacts) (rises : HasRisingFacts fs) (be
   pub rest_way : is_live e ≡ false → IsDeadAt e.id fs → any_below e.id here ≡ false → IsWay (suc (length fs)) fs e []
   rest_way dead gone none =
       by_way [] (sym (put_out e fs rises gone none)
-      ∙ sym (same_shown (leaves_out e.id) is_live there (is_own (λ x. is_live x ≡ leaves_out e.id x) (dead ∙ sym (out_own e.id e (self_eq e.id))) there (the_one e.id e there ups own_place) (λ x n. sym (out_other e.id x n))))) tt tt
+      ∙ sym (same_shown (leaves_out e.id) is_live there (is_own (λ x. is_live x ≡ leaves_out e.id x) (dead ∙ sym (out_own e.id e (self_eq e.id))) there (the_one e.id e there ups own_place) (λ x n. sym (out_other e.id x n))))) tt tt (inl tt)
 
   -- it showed before
   module _ (d : EntryFacts) (at : StandsAt e.id d fs) (parent : e.parent ≡ d.parent) (was : (is_live d || any_below e.id here) ≡ true) (child : uid_eq e.id suffix_id ≡ false) where
@@ -219,6 +220,7 @@ module _ (e : EntryFacts) (fs : List EntryFacts) (rises : HasRisingFacts fs) (be
           ),
         )
         (tt, tt)
+        (inr (child_of d, child_of e, is, refl))
 
     -- and does not show after
     pub leave_way : is_live e ≡ false → any_below e.id here ≡ false → uid_cmp e.parent e.id ≡ Less → (chain : List Child) → IsChain 1 fs here e.parent chain → IsWay (suc (length fs)) fs e (Leave (child_of d) ∷ leaves chain)
@@ -237,6 +239,8 @@ module _ (e : EntryFacts) (fs : List EntryFacts) (rises : HasRisingFacts fs) (be
         (ap (stepped (leaves chain)) stage ∙ more.1)
         ((member, old_below), few_here, subst (λ ds. AreTrue (suc (length fs)) ds (leaves chain)) (sym stage) more.0)
         (apart_leaves chain)
+        (let lone = chain_under e fs rises below roots own 1 here q chain is_chain in
+        inl (subst (λ v. AllByRecursion (IsBehindLeave v) (leaves chain)) parent (behind_leave q chain lone.0), lone.1))
 
   -- it did not show before, and is live
   pub enter_way : is_live e ≡ true → IsDeadAt e.id fs → any_below e.id here ≡ false → uid_cmp e.parent e.id ≡ Less → uid_eq e.id suffix_id ≡ false → (chain : List Child) → IsChain 0 fs here e.parent chain → IsWay (suc (length fs)) fs e (enters chain ++ Enter (child_of e) ∷ [])
@@ -261,3 +265,4 @@ module _ (e : EntryFacts) (fs : List EntryFacts) (rises : HasRisingFacts fs) (be
       (ap (is_among_children e.id) stage ∙ among_without e.id S, below_parent e child)
       (subst (λ ds. length ds ≤ suc (length fs)) (sym more.1) (few e fs rises below roots own (held L q))))
       (apart_last (enters chain) (child_of e) more.2 more.3)
+      (inl (lone_enters chain (child_of e) (apart_last (enters chain) (child_of e) more.2 more.3)))

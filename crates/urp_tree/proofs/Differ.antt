@@ -25,18 +25,17 @@ use Rattle.urp_tree.specs.Rows.{row_at, facts_in}
 use Rattle.urp_tree.specs.declared.child.Child.{Child}
 use Rattle.urp_tree.specs.declared.step.Step.{Step}
 use Rattle.urp_tree.specs.Walk.{child_of, children_of_facts, children_in, stepped}
-use Rattle.urp_tree.specs.Climb.{AreTrue}
 use Rattle.urp_tree.specs.Known.{IsTree, IsPlain, IsLiveRoot, HasRisingFacts, put_fact, fact_id}
 use Rattle.urp_tree.specs.Planned.{IsFreshRow}
 use Rattle.urp_tree.specs.Seen.{present_entry, tombstone}
-use Rattle.urp_tree.specs.Placed.{at_child, loses_in, place_in, same_bool, same_place, ArePlaces, CoversStep, AreAlike}
+use Rattle.urp_tree.specs.Placed.{at_child, loses_in, place_in, same_bool, same_place, ArePlaces, KeepsPlaces, LeavesRest}
 use Rattle.urp_tree.specs.Changes.{shown_at, glue_at, parent_at, values_at, IsSame, Differs, IsTold, is_listed, HasRisingChanges, AreChanges, shown_with, before_of, changed_as, changes_in, changes_at, changes_of}
 use Rattle.urp_tree.proofs.Settled.{all_present, all_put, among_put, rising_children}
 use Rattle.urp_tree.proofs.Levels.{the_one, self_put, self_eq, StandsAt}
 use Rattle.urp_tree.proofs.Fits.{no_row, row_id, row_among}
 use Rattle.urp_tree.proofs.Seen.{IsOnly, at_id, find_map, found_only, found_none, only_filter, not_chosen, fewer, fewer_present, only, kept}
 use Rattle.urp_tree.proofs.Lost.{root_has, has_with_id}
-use Rattle.urp_tree.proofs.Placed.{place_present, place_absent, none_among, stays}
+use Rattle.urp_tree.proofs.Placed.{place_present, place_absent, none_among}
 
 decide : {G : Type 0} (b : Bool) → (b ≡ true → G) → (b ≡ false → G) → G
 decide true f g = f refl
@@ -245,20 +244,6 @@ all_flat : (T : Changed → Type 0) (F : Uid × Option Bool → List Changed) (e
 all_flat T F [] h = tt
 all_flat T F (e ∷ es) h = all_both T (F e) (flat_map F es) h.0 (all_flat T F es h.1)
 
--- the child of an entry, where it is present
-child_is : (es : List EntryFacts) (u : Uid) (f : EntryFacts) → IsOnly u f es → (c : Child) → at_child (children_of_facts es) u ≡ Some c → c ≡ child_of f
-child_is es u f o c h = by (is_among_entries (present_of es) u) refl
-  where
-    at : at_child (children_of_facts es) u ≡ option_map child_of (at_id u (present_of es))
-    at = find_map (λ (x : Child). uid_eq x.id u) child_of (present_of es)
-
-    by : (b : Bool) → is_among_entries (present_of es) u ≡ b → c ≡ child_of f
-    by true k =
-        let is : Some (child_of f) ≡ Some c = sym (at ∙ ap (option_map child_of) (found_only u f (present_of es) (all_present (λ (e : EntryFacts). uid_eq e.id u ≡ true → e ≡ f) es o) k)) ∙ h in
-        let back : child_of f ≡ c = cc in
-        sym back
-    by false k = let e : ◌≡◌ {A = Option Child} None (Some c) = sym (at ∙ ap (option_map child_of) (found_none u (present_of es) k)) ∙ h in cc
-
 -- A ROW PUT AMONG THE ROWS
 module _ (rows : BTreeMap Uid (Option Row)) (tree : IsTree rows None []) (ordered : HasOrderedKeys uid_cmp rows) (new : Row) (fresh : IsFreshRow new) (below : HasParentBelow new.entry) (root : IsLiveRoot new.entry) (plain : IsPlain new.entry) where
   abbrev e : EntryFacts
@@ -294,19 +279,6 @@ module _ (rows : BTreeMap Uid (Option Row)) (tree : IsTree rows None []) (ordere
 
     among_fs : is_among_entries fs u ≡ true
     among_fs = among_put e u es (row_among rows tree ordered u r there)
-
-  pub alike : AreAlike (children_in rows) (children_of_facts fs) e.id
-  alike u c d n p q = by (row_at rows u) refl
-    where
-      by : (o : Option Row) → row_at rows u ≡ o → c ≡ d
-      by (Some r) h = child_is es u r.entry (only_es u r h n) c p ∙ sym (child_is fs u r.entry (only_fs u r h n) d q)
-      by None h =
-          let gone : is_among_entries (present_of es) u ≡ false = fewer_present u es (no_row rows tree ordered u h) in
-          let f : ◌≡◌ {A = Option Child} None (Some c) = sym (find_map (λ (x : Child). uid_eq x.id u) child_of (present_of es) ∙ ap (option_map child_of) (found_none u (present_of es) gone)) ∙ p in
-          cc
-
-  pub own_child : (c : Child) → at_child (children_of_facts fs) e.id ≡ Some c → c ≡ child_of e
-  own_child c h = child_is fs e.id e own_only c h
 
   module _ (suffix : List ℕ) where
     abbrev v : DirectoryView
@@ -527,28 +499,26 @@ module _ (rows : BTreeMap Uid (Option Row)) (tree : IsTree rows None []) (ordere
       }
 
   -- the places that steps lead to, with that of the target
-  module _ (bound : ℕ) (ss : List Step) (trues : AreTrue bound (children_in rows) ss) (leads : stepped ss (children_in rows) ≡ children_of_facts fs) (found with_own : BTreeMap Uid (Option Bool)) (place : Option Bool)
-      (places : (t : Uid) → AreAlike (children_in rows) (stepped ss (children_in rows)) t → ArePlaces (stepped ss (children_in rows)) t found) (covers : AllByRecursion (CoversStep (children_in rows) (stepped ss (children_in rows)) found) ss)
-      (is : place ≡ place_in (stepped ss (children_in rows)) e.id) (up : Updates uid_cmp found with_own e.id (Some place)) (sorted : HasOrderedKeys uid_cmp with_own) where
-    abbrev cs : List Child
-    cs = children_in rows
+  module _ (ss : List Step) (leads : stepped ss (children_in rows) ≡ children_of_facts fs) (child : (ss ≡ []) ⊎ (uid_eq e.id suffix_id ≡ false)) (found with_own : BTreeMap Uid (Option Bool)) (target : Uid) (is : target ≡ e.id)
+      (placed : ArePlaces (stepped ss (children_in rows)) found) (rest : LeavesRest (children_in rows) (stepped ss (children_in rows)) found)
+      (more : (ds : List Child) → (uid_eq target suffix_id ≡ true → place_in (children_in rows) target ≡ place_in ds target) → LeavesRest (children_in rows) ds found → ArePlaces ds found → ArePlaces ds with_own)
+      (keeps : KeepsPlaces found with_own) (own : is_some (get uid_cmp with_own target) ≡ true) where
+    root_stays : uid_eq target suffix_id ≡ true → place_in (children_in rows) target ≡ place_in (stepped ss (children_in rows)) target
+    root_stays t = (elim child [
+      | inl h ↦ ap (λ (ts : List Step). place_in (stepped ts (children_in rows)) target) (sym h)
+      | inr f ↦ never (uid_eq target suffix_id) t (ap (λ u. uid_eq u suffix_id) is ∙ f)
+    ])
 
-    like : AreAlike cs (stepped ss cs) e.id
-    like = subst (λ ds. AreAlike cs ds e.id) (sym leads) alike
-
-    all_told : (u : Uid) (p : Option Bool) → get uid_cmp with_own u ≡ Some p → p ≡ place_in (children_of_facts fs) u
-    all_told u p h =
-        decide (uid_eq e.id u)
-        (λ t. let at : e.id ≡ u = same_id e.id u t in
-        let same : place ≡ p = (let f : Some place ≡ Some p = sym up.1 ∙ ap (get uid_cmp with_own) at ∙ h in cc) in
-        sym same ∙ is ∙ ap (place_in (stepped ss cs)) at ∙ ap (λ ds. place_in ds u) leads)
-        (λ f. places e.id like u p (sym (up.2 u f) ∙ h) (other_side u f) ∙ ap (λ ds. place_in ds u) leads)
+    less_places : (u : Uid) → get uid_cmp with_own u ≡ None → get uid_cmp found u ≡ None
+    less_places u h = by (get uid_cmp found u) refl
       where
-        other_side : (u : Uid) → uid_eq e.id u ≡ false → uid_eq u e.id ≡ false
-        other_side u n = decide (uid_eq u e.id) (λ t. never (uid_eq e.id u) (ap (uid_eq e.id) (same_id u e.id t) ∙ self_eq e.id) n) (λ f. f)
+        by : (o : Option (Option Bool)) → get uid_cmp found u ≡ o → o ≡ None
+        by None k = refl
+        by (Some p) k = never (is_some (get uid_cmp with_own u)) (keeps u (ap is_some k)) (ap is_some h)
 
-    the_rest : (u : Uid) → uid_eq u e.id ≡ false → uid_eq u suffix_id ≡ false → get uid_cmp with_own u ≡ None → place_in cs u ≡ place_in (children_of_facts fs) u
-    the_rest u n r none = stays bound ss cs (rising_children es tree.rises) trues e.id like found covers u n r (sym (up.2 u (other u n)) ∙ none) ∙ ap (λ ds. place_in ds u) leads
-
-    pub all_changes : (suffix : List ℕ) → AreChanges (view_of_facts suffix es) (view_of_facts suffix fs) e.id (flat_map (changes_of rows new) with_own.entries)
-    all_changes suffix = are_changes suffix with_own sorted all_told the_rest (ap is_some up.1)
+    pub placed_changes : (suffix : List ℕ) → (sorted : HasOrderedKeys uid_cmp with_own) → AreChanges (view_of_facts suffix es) (view_of_facts suffix fs) e.id (flat_map (changes_of rows new) with_own.entries)
+    placed_changes suffix sorted =
+        are_changes suffix with_own sorted
+        (λ u p h. more (stepped ss (children_in rows)) root_stays rest placed u p h ∙ ap (λ ds. place_in ds u) leads)
+        (λ u n r none. rest u r (less_places u none) ∙ ap (λ ds. place_in ds u) leads)
+        (subst (λ u. is_some (get uid_cmp with_own u) ≡ true) is own)

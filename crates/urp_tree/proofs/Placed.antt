@@ -4,16 +4,18 @@ use Rattle.std.specs.Prelude.{◌&&◌, ◌||◌, find, option_map, is_some}
 use Rattle.std.specs.List.{AllByRecursion, list_any}
 use Rattle.std.proofs.lemmas.List.{take_more}
 use Rattle.std.proofs.lemmas.List.Folds.{list_any-append}
-use Rattle.std.specs.BTreeMap.{BTreeMap, get, Updates, IsOrdered as HasOrderedKeys}
-use Rattle.std.specs.Ordering.{is_eq}
-use Rattle.std.specs.declared.cmp.Ordering.TheVariants.{Less}
+use Rattle.std.specs.Map.{lookup}
+use Rattle.std.specs.BTreeMap.{BTreeMap, get, is_at, Updates, IsOrdered as HasOrderedKeys}
+use Rattle.std.specs.Ordering.{is_eq, ordering_reverse}
+use Rattle.std.specs.declared.cmp.Ordering.{Ordering}
+use Rattle.std.specs.declared.cmp.Ordering.TheVariants.{Less, Equal, Greater}
 use Rattle.repl_data.specs.declared.csn.Uid.{Uid}
 use Rattle.repl_data.specs.declared.change.Rdn.{Rdn}
-use Rattle.repl_data.specs.Order.{uid_cmp, uid_eq, suffix_id, same_rdn}
+use Rattle.repl_data.specs.Order.{uid_cmp, uid_eq, suffix_id, same_rdn, by_order}
 use Rattle.repl_data.specs.Facts.{EntryFacts}
 use Rattle.repl_data.specs.Presence.{present_of, is_among_entries}
 use Rattle.repl_data.specs.Names.{has_name}
-use Rattle.repl_data.proofs.Orders.{uid_exact}
+use Rattle.repl_data.proofs.Orders.{uid_exact, uid_total}
 use Rattle.repl_data.proofs.InOrder.{is_equal}
 use Rattle.urp_names.specs.declared.contenders.Contender.{Contender}
 use Rattle.urp_names.specs.Contending.{contends, put_one, without}
@@ -26,7 +28,7 @@ use Rattle.urp_tree.specs.Rows.{row_at, facts_in}
 use Rattle.urp_tree.specs.Walk.{child_of, child_in, children_of_facts, children_in, step_of, stepped, IsTrueOf}
 use Rattle.urp_tree.specs.Known.{IsTree}
 use Rattle.urp_tree.specs.Climb.{AreTrue}
-use Rattle.urp_tree.specs.Placed.{at_child, is_beaten, loses_in, place_in, IsPlaced, ArePlaces, HasPlaces, KeepsPlaces, Covers, CoversStep, AreAlike}
+use Rattle.urp_tree.specs.Placed.{at_child, is_beaten, loses_in, place_in, ArePlaces, HasFront, KeepsPlaces, LeavesRest, Covers, CoversStep}
 use Rattle.urp_tree.proofs.Children.{wanting_put, wanting_without, wanting_kept, wanting_same}
 use Rattle.urp_tree.proofs.Walks.{rises_step}
 use Rattle.urp_tree.proofs.Settled.{all_present, children_none, others_none}
@@ -48,6 +50,14 @@ both false b h f = let e : false ≡ true = h in cc
 
 same_id : (u v : Uid) → uid_eq u v ≡ true → u ≡ v
 same_id u v h = uid_exact u v (is_equal (uid_cmp u v) h)
+
+turned_eq : (u v : Uid) → uid_eq u v ≡ uid_eq v u
+turned_eq u v = ap is_eq (uid_total.antisymm u v) ∙ reversed (uid_cmp v u)
+  where
+    reversed : (o : Ordering) → is_eq (ordering_reverse o) ≡ is_eq o
+    reversed Less = refl
+    reversed Equal = refl
+    reversed Greater = refl
 
 -- THE PLACE of an entry, by its facts
 pub place_present : (es : List EntryFacts) (u : Uid) (f : EntryFacts) → IsOnly u f es → is_among_entries (present_of es) u ≡ true → place_in (children_of_facts es) u ≡ Some (not (has_name (present_of es) f))
@@ -100,26 +110,12 @@ who_leaves parent rdn c cs = sym (wanting_without parent rdn c.id cs)
 abbrev pub touches : Uid → Rdn → Step → Bool
 touches parent rdn s = wants parent rdn (child_in s)
 
--- one step, told by its child
-pub enter_ok : (parent : Uid) (rdn : Rdn) (s : Step) (c : Child) → s ≡ Enter c → wants parent rdn c ≡ true → (old new : List Contender) → new ≡ put_one (contender c) old
-    → (cs : List Child) → HasRisingIds cs → IsTrueOf cs s → old ≡ wanting parent rdn cs → new ≡ wanting parent rdn (step_of s cs)
-enter_ok parent rdn s c is w old new k cs r t h =
-    subst (λ (x : Step). IsTrueOf cs x → new ≡ wanting parent rdn (step_of x cs)) (sym is) (λ t'. k ∙ ap (put_one (contender c)) h ∙ who_enters parent rdn c cs r t' w) t
-
-pub leave_ok : (parent : Uid) (rdn : Rdn) (s : Step) (c : Child) → s ≡ Leave c → (old new : List Contender) → new ≡ without c.id old
-    → (cs : List Child) → HasRisingIds cs → IsTrueOf cs s → old ≡ wanting parent rdn cs → new ≡ wanting parent rdn (step_of s cs)
-leave_ok parent rdn s c is old new k cs r t h =
-    k ∙ ap (without c.id) h ∙ who_leaves parent rdn c cs ∙ ap (λ (x : Step). wanting parent rdn (step_of x cs)) (sym is)
-
-pub stay_ok : (parent : Uid) (rdn : Rdn) (s : Step) (c : Child) → child_in s ≡ c → wants parent rdn c ≡ false → (old : List Contender) → (cs : List Child) → HasRisingIds cs → IsTrueOf cs s → old ≡ wanting parent rdn cs → old ≡ wanting parent rdn (step_of s cs)
-stay_ok parent rdn s c is w old cs r t h = h ∙ sym (who_stays parent rdn s cs r t (ap (wants parent rdn) is ∙ w))
-
 pub on_ok : {A E : Type 0} {P Q : Type 0} (r : Result A E) → (P → Q) → OnOk r P → OnOk r Q
 on_ok (Ok x) f h = f h
 on_ok (Err x) f h = h
 
 -- a name that no step touches
-untouched : (n : ℕ) (parent : Uid) (rdn : Rdn) (ss : List Step) (cs : List Child) → HasRisingIds cs → AreTrue n cs ss → list_any (touches parent rdn) ss ≡ false → wanting parent rdn (stepped ss cs) ≡ wanting parent rdn cs
+pub untouched : (n : ℕ) (parent : Uid) (rdn : Rdn) (ss : List Step) (cs : List Child) → HasRisingIds cs → AreTrue n cs ss → list_any (touches parent rdn) ss ≡ false → wanting parent rdn (stepped ss cs) ≡ wanting parent rdn cs
 untouched n parent rdn [] cs r t h = refl
 untouched n parent rdn (s ∷ ss) cs r t h =
     neither (touches parent rdn s) (list_any (touches parent rdn) ss) h
@@ -199,12 +195,12 @@ place_wanting parent rdn c cs r m h =
 
 -- PLACES BY ID, with one more
 module _ (a b : BTreeMap Uid (Option Bool)) (k : Uid) (v : Option Bool) (up : Updates uid_cmp a b k (Some v)) where
-  pub one_place : (ds : List Child) (t : Uid) → IsPlaced ds t k v → ArePlaces ds t a → ArePlaces ds t b
-  one_place ds t own are u place h n =
+  pub one_place : (ds : List Child) → v ≡ place_in ds k → ArePlaces ds a → ArePlaces ds b
+  one_place ds own are u place h =
       decide (uid_eq k u)
       (λ e. let is : v ≡ place = (let f : Some v ≡ Some place = sym (up.1) ∙ subst (λ w. get uid_cmp b w ≡ Some place) (sym (same_id k u e)) h in cc) in
-      sym is ∙ subst (λ w. uid_eq w t ≡ false → v ≡ place_in ds w) (same_id k u e) own n)
-      (λ e. are u place (sym (up.2 u e) ∙ h) n)
+      sym is ∙ own ∙ ap (place_in ds) (same_id k u e))
+      (λ e. are u place (sym (up.2 u e) ∙ h))
 
   pub keeps_one : KeepsPlaces a b
   keeps_one u h =
@@ -215,73 +211,11 @@ module _ (a b : BTreeMap Uid (Option Bool)) (k : Uid) (v : Option Bool) (up : Up
   pub has_one : is_some (get uid_cmp b k) ≡ true
   has_one = ap is_some up.1
 
--- as far as the place i of those that contend for a name after
-pub record AfterAt (who : List Contender) (old new : BTreeMap Uid (Option Bool)) (i : ℕ) : Type 0 where
-  pub places : (ds : List Child) (t : Uid) → AllByRecursion (λ (c : Contender). IsPlaced ds t c.id (Some (is_beaten who c))) who → ArePlaces ds t old → ArePlaces ds t new
-  pub keeps : KeepsPlaces old new
-  pub covers : HasPlaces new (take i who)
+pub no_places : (m : BTreeMap Uid (Option Bool)) (ds : List Child) → m.entries ≡ [] → ArePlaces ds m
+no_places m ds h u place k = let f : ◌≡◌ {A = Option (Option Bool)} None (Some place) = sym (ap (lookup (is_at (uid_cmp u))) h) ∙ k in cc
 
--- and before
-pub record BeforeAt (who : List Contender) (old new : BTreeMap Uid (Option Bool)) (i : ℕ) : Type 0 where
-  pub places : (ds : List Child) (t : Uid) → AllByRecursion (λ (c : Contender). is_some (get uid_cmp old c.id) ≡ false → IsPlaced ds t c.id None) who → ArePlaces ds t old → ArePlaces ds t new
-  pub keeps : KeepsPlaces old new
-  pub covers : HasPlaces new (take i who)
-
-all_get : (P : Contender → Type 0) (who : List Contender) (i : ℕ) (d : Contender) → AllByRecursion P who → i < length who → P (get_or who i d)
-all_get P [] i d h l = let k : i < 0 = l in absurd (omega arith)
-all_get P (c ∷ cs) zero d h l = h.0
-all_get P (c ∷ cs) (suc i) d h l = all_get P cs i d h.1 (let k : suc i < suc (length cs) = l in omega arith)
-
-contends_more : (u : Uid) (who : List Contender) (i : ℕ) (d : Contender) → i < length who → contends u (take (i + 1) who) ≡ (contends u (take i who) || (uid_eq (get_or who i d).id u || false))
-contends_more u who i d l = ap (contends u) (take_more who i d l) ∙ list_any-append (λ (c : Contender). uid_eq c.id u) (take i who) (get_or who i d ∷ [])
-
-split_either : {G : Type 0} (a b : Bool) → (a || (b || false)) ≡ true → (a ≡ true → G) → (b ≡ true → G) → G
-split_either true b h f g = f refl
-split_either false true h f g = g refl
-split_either false false h f g = let e : false ≡ true = h in cc
-
-has_more : (who : List Contender) (i : ℕ) (d : Contender) (a b : BTreeMap Uid (Option Bool)) → i < length who → KeepsPlaces a b → is_some (get uid_cmp b (get_or who i d).id) ≡ true → HasPlaces a (take i who) → HasPlaces b (take (i + 1) who)
-has_more who i d a b l keeps there has u h =
-    split_either (contends u (take i who)) (uid_eq (get_or who i d).id u) (sym (contends_more u who i d l) ∙ h)
-    (λ t. keeps u (has u t))
-    (λ t. subst (λ w. is_some (get uid_cmp b w) ≡ true) (same_id (get_or who i d).id u t) there)
-
-pub after_init : (who : List Contender) (old : BTreeMap Uid (Option Bool)) → AfterAt who old old 0
-after_init who old = record { places = λ ds t all are. are; keeps = λ u h. h; covers = λ u h. let e : false ≡ true = h in cc }
-
-pub before_init : (who : List Contender) (old : BTreeMap Uid (Option Bool)) → BeforeAt who old old 0
-before_init who old = record { places = λ ds t all are. are; keeps = λ u h. h; covers = λ u h. let e : false ≡ true = h in cc }
-
-pub after_more : (who all : List Contender) (i : ℕ) (d : Contender) (old a b : BTreeMap Uid (Option Bool)) (lost : Bool) → i < length who → who ≡ all
-    → ((id : Uid) → lost ≡ is_beaten all (record { id = id; glue = (get_or who i d).glue; named = (get_or who i d).named })) → Updates uid_cmp a b (get_or who i d).id (Some (Some lost)) → AfterAt who old a i → AfterAt who old b (i + 1)
-after_more who all i d old a b lost l same is up was = record {
-  places = λ ds t every are.
-      one_place a b (get_or who i d).id (Some lost) up ds t
-      (λ n. ap Some (is (get_or who i d).id ∙ ap (λ (xs : List Contender). is_beaten xs (get_or who i d)) (sym same)) ∙ all_get (λ (c : Contender). IsPlaced ds t c.id (Some (is_beaten who c))) who i d every l n)
-      (was.places ds t every are);
-  keeps = λ u h. keeps_one a b (get_or who i d).id (Some lost) up u (was.keeps u h);
-  covers = has_more who i d a b l (keeps_one a b (get_or who i d).id (Some lost) up) (has_one a b (get_or who i d).id (Some lost) up) was.covers;
-}
-
-not_there : (o p : Bool) → (o ≡ true → p ≡ true) → p ≡ false → o ≡ false
-not_there true p f h = let e : true ≡ false = sym (f refl) ∙ h in cc
-not_there false p f h = refl
-
-pub before_more : (who : List Contender) (i : ℕ) (d : Contender) (old a b : BTreeMap Uid (Option Bool)) → i < length who
-    → ((ds : List Child) (t : Uid) → (is_some (get uid_cmp a (get_or who i d).id) ≡ false → IsPlaced ds t (get_or who i d).id None) → ArePlaces ds t a → ArePlaces ds t b)
-    → KeepsPlaces a b → is_some (get uid_cmp b (get_or who i d).id) ≡ true → BeforeAt who old a i → BeforeAt who old b (i + 1)
-before_more who i d old a b l step keeps there was = record {
-  places = λ ds t all are.
-      step ds t
-      (λ n. all_get (λ (c : Contender). is_some (get uid_cmp old c.id) ≡ false → IsPlaced ds t c.id None) who i d all l
-      (not_there (is_some (get uid_cmp old (get_or who i d).id)) (is_some (get uid_cmp a (get_or who i d).id)) (was.keeps (get_or who i d).id) n))
-      (was.places ds t all are);
-  keeps = λ u h. keeps u (was.keeps u h);
-  covers = has_more who i d a b l keeps there was.covers;
-}
-
--- THOSE THAT CONTEND, before and after
-module _ (parent : Uid) (rdn : Rdn) (ds : List Child) (rises : HasRisingIds ds) where
+-- THOSE THAT CONTEND
+module _ (parent : Uid) (rdn : Rdn) where
   all_wanted : (P : Contender → Type 0) (cs : List Child) → ((c : Child) → IsOneOf c cs → wants parent rdn c ≡ true → P (contender c)) → AllByRecursion P (wanting parent rdn cs)
   all_wanted P [] f = tt
   all_wanted P (c ∷ cs) f = by (wants parent rdn c) refl (all_wanted P cs (λ d m w. f d (inr m) w))
@@ -290,96 +224,129 @@ module _ (parent : Uid) (rdn : Rdn) (ds : List Child) (rises : HasRisingIds ds) 
       by true w more = (f c (inl refl) w, more)
       by false w more = more
 
-  pub after_placed : (t : Uid) → AllByRecursion (λ (c : Contender). IsPlaced ds t c.id (Some (is_beaten (wanting parent rdn ds) c))) (wanting parent rdn ds)
-  after_placed t = all_wanted (λ (c : Contender). IsPlaced ds t c.id (Some (is_beaten (wanting parent rdn ds) c))) ds (λ c m w n. sym (place_wanting parent rdn c ds rises m w))
+  pub after_placed : (ds : List Child) → HasRisingIds ds → AllByRecursion (λ (c : Contender). place_in ds c.id ≡ Some (is_beaten (wanting parent rdn ds) c)) (wanting parent rdn ds)
+  after_placed ds rises = all_wanted (λ (c : Contender). place_in ds c.id ≡ Some (is_beaten (wanting parent rdn ds) c)) ds (λ c m w. place_wanting parent rdn c ds rises m w)
 
-  nowhere_else : (cs : List Child) (t : Uid) (c : Child) → HasRisingIds cs → AreAlike cs ds t → IsOneOf c cs → wants parent rdn c ≡ true → contends c.id (wanting parent rdn ds) ≡ false → IsPlaced ds t c.id None
-  nowhere_else cs t c r alike m w none n = by (at_child ds c.id) refl
+  pub all_at_child : (P : Contender → Type 0) (c : Child) (cs : List Child) → AllByRecursion P (wanting parent rdn cs) → IsOneOf c cs → wants parent rdn c ≡ true → P (contender c)
+  all_at_child P c [] h m w = elim m [ ]
+  all_at_child P c (d ∷ cs) h (inl m) w = first (wants parent rdn d) (ap (wants parent rdn) (sym m) ∙ w) h
     where
-      by : (o : Option Child) → at_child ds c.id ≡ o → None ≡ place_in ds c.id
-      by None e = sym (ap (option_map (loses_in ds)) e)
-      by (Some d) e =
-          let same : c ≡ d = alike c.id c d n (found_member c cs r m) e in
-          let there : IsOneOf c ds = subst (λ (x : Child). IsOneOf x ds) (sym same) (found_there c.id d ds e).0 in
-          never (contends c.id (wanting parent rdn ds)) (wants_contends parent rdn c ds there w) none
-
-  pub before_placed : (cs : List Child) (t : Uid) (places : BTreeMap Uid (Option Bool)) → HasRisingIds cs → AreAlike cs ds t → HasPlaces places (wanting parent rdn ds)
-      → AllByRecursion (λ (c : Contender). is_some (get uid_cmp places c.id) ≡ false → IsPlaced ds t c.id None) (wanting parent rdn cs)
-  before_placed cs t places r alike has =
-      all_wanted (λ (c : Contender). is_some (get uid_cmp places c.id) ≡ false → IsPlaced ds t c.id None) cs
-      (λ c m w f. nowhere_else cs t c r alike m w (not_there (contends c.id (wanting parent rdn ds)) (is_some (get uid_cmp places c.id)) (has c.id) f))
+      first : (b : Bool) → b ≡ true → AllByRecursion P (map contender (cond b (d ∷ filter (wants parent rdn) cs) (filter (wants parent rdn) cs))) → P (contender c)
+      first true k g = subst (λ (x : Child). P (contender x)) (sym m) g.0
+      first false k g = let e : false ≡ true = k in cc
+  all_at_child P c (d ∷ cs) h (inr m) w = all_at_child P c cs (rest (wants parent rdn d) h) m w
+    where
+      rest : (b : Bool) → AllByRecursion P (map contender (cond b (d ∷ filter (wants parent rdn) cs) (filter (wants parent rdn) cs))) → AllByRecursion P (wanting parent rdn cs)
+      rest true g = g.1
+      rest false g = g
 
 -- STEPS, one after the other
 pub steps_rise : (ss : List Step) (cs : List Child) → HasRisingIds cs → HasRisingIds (stepped ss cs)
 steps_rise [] cs h = h
 steps_rise (s ∷ ss) cs h = steps_rise ss (step_of s cs) (rises_step s cs h)
 
--- a name that a step touches has all its places
-covered : (cs ds : List Child) (places : BTreeMap Uid (Option Bool)) (parent : Uid) (rdn : Rdn) (ss : List Step) → AllByRecursion (CoversStep cs ds places) ss → list_any (touches parent rdn) ss ≡ true → Covers cs ds places parent rdn
+-- A NAME THAT A STEP TOUCHES has its places
+abbrev IsCovered : List Child → List Child → BTreeMap Uid (Option Bool) → Uid → Rdn → Type 0
+IsCovered cs ds places parent rdn = (u : Uid) × (is_some (get uid_cmp places u) ≡ true) × Covers cs ds places parent rdn u
+
+covered : (cs ds : List Child) (places : BTreeMap Uid (Option Bool)) (parent : Uid) (rdn : Rdn) (ss : List Step) → AllByRecursion (CoversStep cs ds places) ss → list_any (touches parent rdn) ss ≡ true → IsCovered cs ds places parent rdn
 covered cs ds places parent rdn [] all h = let e : false ≡ true = h in cc
 covered cs ds places parent rdn (s ∷ ss) all h = by (touches parent rdn s) refl h (covered cs ds places parent rdn ss all.1)
   where
-    by : (b : Bool) → touches parent rdn s ≡ b → (b || list_any (touches parent rdn) ss) ≡ true → (list_any (touches parent rdn) ss ≡ true → Covers cs ds places parent rdn) → Covers cs ds places parent rdn
-    by true w k more = record {
-      before = subst (HasPlaces places) (wants_own cs parent rdn (child_in s) w) all.0.before;
-      after = subst (HasPlaces places) (wants_own ds parent rdn (child_in s) w) all.0.after;
-    }
+    by : (b : Bool) → touches parent rdn s ≡ b → (b || list_any (touches parent rdn) ss) ≡ true → (list_any (touches parent rdn) ss ≡ true → IsCovered cs ds places parent rdn) → IsCovered cs ds places parent rdn
+    by true w k more = (
+      (child_in s).id,
+      all.0.own,
+      record {
+        before = subst (HasFront places (child_in s).id) (wants_own cs parent rdn (child_in s) w) all.0.name.before;
+        after = subst (HasFront places (child_in s).id) (wants_own ds parent rdn (child_in s) w) all.0.name.after;
+      },
+    )
     by false w k more = more k
 
 stands_own : (c : Child) → uid_eq c.id suffix_id ≡ false → wants c.parent c.rdn c ≡ true
 stands_own c n = ap (λ b. (b && not (uid_eq c.id suffix_id)) && same_rdn c.rdn c.rdn) (self_eq c.parent) ∙ ap (λ b. not b && same_rdn c.rdn c.rdn) n ∙ same_itself c.rdn
 
-module _ (n : ℕ) (ss : List Step) (cs : List Child) (rises : HasRisingIds cs) (trues : AreTrue n cs ss) (t : Uid) (alike : AreAlike cs (stepped ss cs) t) (places : BTreeMap Uid (Option Bool)) (covers : AllByRecursion (CoversStep cs (stepped ss cs) places) ss) where
+-- WHO NEITHER COMES NOR GOES
+put_other : (u : Uid) (c : Child) (cs : List Child) → uid_eq c.id u ≡ false → at_child (put_child c cs) u ≡ at_child cs u
+put_other u c [] n = ap (λ b. cond b (Some c) None) n
+put_other u c (d ∷ ds) n = by (uid_cmp c.id d.id) refl (put_other u c ds n)
+  where
+    by : (o : Ordering) → uid_cmp c.id d.id ≡ o → at_child (put_child c ds) u ≡ at_child ds u → at_child (by_order o (c ∷ d ∷ ds) (c ∷ ds) (d ∷ put_child c ds)) u ≡ at_child (d ∷ ds) u
+    by Less k more = ap (λ b. cond b (Some c) (at_child (d ∷ ds) u)) n
+    by Equal k more = ap (λ b. cond b (Some c) (at_child ds u)) n ∙ sym (ap (λ v. cond (uid_eq v u) (Some d) (at_child ds u)) (sym (uid_exact c.id d.id k)) ∙ ap (λ b. cond b (Some d) (at_child ds u)) n)
+    by Greater k more = ap (λ o. cond (uid_eq d.id u) (Some d) o) more
+
+without_other : (u v : Uid) (cs : List Child) → uid_eq v u ≡ false → at_child (without_child v cs) u ≡ at_child cs u
+without_other u v [] n = refl
+without_other u v (d ∷ ds) n = by (uid_eq d.id v) refl (without_other u v ds n)
+  where
+    by : (b : Bool) → uid_eq d.id v ≡ b → at_child (without_child v ds) u ≡ at_child ds u → at_child (cond (not b) (d ∷ without_child v ds) (without_child v ds)) u ≡ at_child (d ∷ ds) u
+    by true k more = more ∙ sym (ap (λ w. cond (uid_eq w u) (Some d) (at_child ds u)) (same_id d.id v k) ∙ ap (λ b. cond b (Some d) (at_child ds u)) n)
+    by false k more = ap (λ o. cond (uid_eq d.id u) (Some d) o) more
+
+step_other : (u : Uid) (s : Step) (cs : List Child) → uid_eq (child_in s).id u ≡ false → at_child (step_of s cs) u ≡ at_child cs u
+step_other u (Enter c) cs n = put_other u c cs n
+step_other u (Leave c) cs n = without_other u c.id cs n
+
+module _ (n : ℕ) (ss : List Step) (cs : List Child) (rises : HasRisingIds cs) (trues : AreTrue n cs ss) (places : BTreeMap Uid (Option Bool)) (covers : AllByRecursion (CoversStep cs (stepped ss cs) places) ss) where
   abbrev late : List Child
   late = stepped ss cs
 
-  -- who wants a name that is not touched is there before and after
-  came : (u : Uid) (c : Child) → at_child cs u ≡ Some c → uid_eq u suffix_id ≡ false → get uid_cmp places u ≡ None → wanting c.parent c.rdn late ≡ wanting c.parent c.rdn cs
-  came u c e r none =
-      let m = found_there u c cs e in
-      let own : wants c.parent c.rdn c ≡ true = stands_own c (ap (λ v. uid_eq v suffix_id) m.1 ∙ r) in
-      let there : contends u (wanting c.parent c.rdn cs) ≡ true = subst (λ v. contends v (wanting c.parent c.rdn cs) ≡ true) m.1 (wants_contends c.parent c.rdn c cs m.0 own) in
-      decide (list_any (touches c.parent c.rdn) ss)
-      (λ y. never (is_some (get uid_cmp places u)) ((covered cs late places c.parent c.rdn ss covers y).before u there) (ap is_some none))
-      (λ f. untouched n c.parent c.rdn ss cs rises trues f)
+  other_than : (u v : Uid) → get uid_cmp places u ≡ None → is_some (get uid_cmp places v) ≡ true → uid_eq v u ≡ false
+  other_than u v none has = decide (uid_eq v u) (λ t. never (is_some (get uid_cmp places u)) (subst (λ x. is_some (get uid_cmp places x) ≡ true) (same_id v u t) has) (ap is_some none)) (λ f. f)
 
-  went : (u : Uid) (c : Child) → at_child late u ≡ Some c → uid_eq u suffix_id ≡ false → get uid_cmp places u ≡ None → wanting c.parent c.rdn late ≡ wanting c.parent c.rdn cs
-  went u c e r none =
-      let m = found_there u c late e in
-      let own : wants c.parent c.rdn c ≡ true = stands_own c (ap (λ v. uid_eq v suffix_id) m.1 ∙ r) in
-      let there : contends u (wanting c.parent c.rdn late) ≡ true = subst (λ v. contends v (wanting c.parent c.rdn late) ≡ true) m.1 (wants_contends c.parent c.rdn c late m.0 own) in
-      decide (list_any (touches c.parent c.rdn) ss)
-      (λ y. never (is_some (get uid_cmp places u)) ((covered cs late places c.parent c.rdn ss covers y).after u there) (ap is_some none))
-      (λ f. untouched n c.parent c.rdn ss cs rises trues f)
-
-  -- who has no place stands where it stood
-  pub stays : (u : Uid) → uid_eq u t ≡ false → uid_eq u suffix_id ≡ false → get uid_cmp places u ≡ None → place_in cs u ≡ place_in late u
-  stays u n r none = by (at_child cs u) (at_child late u) refl refl
+  same_child : (u : Uid) → get uid_cmp places u ≡ None → at_child late u ≡ at_child cs u
+  same_child u none = all ss cs covers
     where
-      by : (o p : Option Child) → at_child cs u ≡ o → at_child late u ≡ p → place_in cs u ≡ place_in late u
-      by None None e f = ap (option_map (loses_in cs)) e ∙ sym (ap (option_map (loses_in late)) f)
-      by (Some c) None e f =
-          let m = found_there u c cs e in
-          let own : wants c.parent c.rdn c ≡ true = stands_own c (ap (λ v. uid_eq v suffix_id) m.1 ∙ r) in
-          let w = contends_wants c.parent c.rdn c.id late (ap (contends c.id) (came u c e r none) ∙ wants_contends c.parent c.rdn c cs m.0 own) in
-          let found : at_child late u ≡ Some w.0 = subst (λ v. at_child late v ≡ Some w.0) (w.3 ∙ m.1) (found_member w.0 late (steps_rise ss cs rises) w.1) in
-          let x : ◌≡◌ {A = Option Child} None (Some w.0) = sym f ∙ found in cc
-      by None (Some c) e f =
-          let m = found_there u c late f in
-          let own : wants c.parent c.rdn c ≡ true = stands_own c (ap (λ v. uid_eq v suffix_id) m.1 ∙ r) in
-          let w = contends_wants c.parent c.rdn c.id cs (ap (contends c.id) (sym (went u c f r none)) ∙ wants_contends c.parent c.rdn c late m.0 own) in
-          let found : at_child cs u ≡ Some w.0 = subst (λ v. at_child cs v ≡ Some w.0) (w.3 ∙ m.1) (found_member w.0 cs rises w.1) in
-          let x : ◌≡◌ {A = Option Child} None (Some w.0) = sym e ∙ found in cc
-      by (Some c) (Some d) e f =
-          let same : c ≡ d = alike u c d n e f in
-          ap (option_map (loses_in cs)) e ∙ ap (λ who. Some (is_beaten who (contender c))) (sym (came u c e r none))
-          ∙ ap (λ (x : Child). Some (loses_in late x)) same ∙ sym (ap (option_map (loses_in late)) f)
+      all : (ts : List Step) (xs : List Child) → AllByRecursion (CoversStep cs late places) ts → at_child (stepped ts xs) u ≡ at_child xs u
+      all [] xs h = refl
+      all (t ∷ ts) xs h = all ts (step_of t xs) h.1 ∙ step_other u t xs (other_than u (child_in t).id none h.0.own)
 
--- with more places
+  -- who has no place is beaten where its name is touched
+  is_beaten_in : (u : Uid) (c : Child) (v : Uid) (xs : List Child) → get uid_cmp places u ≡ None → c.id ≡ u → is_some (get uid_cmp places v) ≡ true → HasFront places v (wanting c.parent c.rdn xs) → IsOneOf c xs → wants c.parent c.rdn c ≡ true
+      → is_beaten (wanting c.parent c.rdn xs) (contender c) ≡ true
+  is_beaten_in u c v xs none id has front m w =
+      decide (is_beaten (wanting c.parent c.rdn xs) (contender c))
+      (λ t. t)
+      (λ f. never (is_some (get uid_cmp places u))
+      (subst (λ x. is_some (get uid_cmp places x) ≡ true) id
+      (all_at_child c.parent c.rdn (λ (x : Contender). uid_eq x.id v ≡ false → is_beaten (wanting c.parent c.rdn xs) x ≡ false → is_some (get uid_cmp places x.id) ≡ true) c xs front m w
+      (ap (λ x. uid_eq x v) id ∙ turned_eq u v ∙ other_than u v none has) f))
+      (ap is_some none))
+
+  pub stays : LeavesRest cs late places
+  stays u r none = by (at_child cs u) refl
+    where
+      by : (o : Option Child) → at_child cs u ≡ o → place_in cs u ≡ place_in late u
+      by None e = ap (option_map (loses_in cs)) e ∙ sym (ap (option_map (loses_in late)) (same_child u none ∙ e))
+      by (Some c) e =
+          let m = found_there u c cs e in
+          let l = found_there u c late (same_child u none ∙ e) in
+          let own : wants c.parent c.rdn c ≡ true = stands_own c (ap (λ v. uid_eq v suffix_id) m.1 ∙ r) in
+          let loses : loses_in cs c ≡ loses_in late c =
+          decide (list_any (touches c.parent c.rdn) ss)
+          (λ y. let k = covered cs late places c.parent c.rdn ss covers y in
+          is_beaten_in u c k.0 cs none m.1 k.1 k.2.before m.0 own ∙ sym (is_beaten_in u c k.0 late none l.1 k.1 k.2.after l.0 own))
+          (λ f. ap (λ who. is_beaten who (contender c)) (sym (untouched n c.parent c.rdn ss cs rises trues f))) in
+          ap (option_map (loses_in cs)) e ∙ ap Some loses ∙ sym (ap (option_map (loses_in late)) (same_child u none ∙ e))
+
+-- WITH MORE PLACES
+front_kept : (a b : BTreeMap Uid (Option Bool)) → KeepsPlaces a b → (u : Uid) (all who : List Contender) → AllByRecursion (λ (c : Contender). uid_eq c.id u ≡ false → is_beaten all c ≡ false → is_some (get uid_cmp a c.id) ≡ true) who
+    → AllByRecursion (λ (c : Contender). uid_eq c.id u ≡ false → is_beaten all c ≡ false → is_some (get uid_cmp b c.id) ≡ true) who
+front_kept a b keeps u all [] h = tt
+front_kept a b keeps u all (c ∷ cs) h = ((λ n k. keeps c.id (h.0 n k)), front_kept a b keeps u all cs h.1)
+
+pub name_kept : (cs ds : List Child) (a b : BTreeMap Uid (Option Bool)) (parent : Uid) (rdn : Rdn) (u : Uid) → KeepsPlaces a b → Covers cs ds a parent rdn u → Covers cs ds b parent rdn u
+name_kept cs ds a b parent rdn u keeps h = record {
+  before = front_kept a b keeps u (wanting parent rdn cs) (wanting parent rdn cs) h.before;
+  after = front_kept a b keeps u (wanting parent rdn ds) (wanting parent rdn ds) h.after;
+}
+
 pub covers_kept : (cs ds : List Child) (a b : BTreeMap Uid (Option Bool)) → KeepsPlaces a b → (ss : List Step) → AllByRecursion (CoversStep cs ds a) ss → AllByRecursion (CoversStep cs ds b) ss
 covers_kept cs ds a b keeps [] h = tt
 covers_kept cs ds a b keeps (s ∷ ss) h = (
-  record { before = λ u k. keeps u (h.0.before u k); after = λ u k. keeps u (h.0.after u k) },
+  record { own = keeps (child_in s).id h.0.own; name = name_kept cs ds a b (child_in s).parent (child_in s).rdn (child_in s).id keeps h.0.name },
   covers_kept cs ds a b keeps ss h.1,
 )
 
@@ -387,23 +354,10 @@ pub covers_last : (cs ds : List Child) (b : BTreeMap Uid (Option Bool)) (ss : Li
 covers_last cs ds b [] s h k = (k, tt)
 covers_last cs ds b (t ∷ ss) s h k = (h.0, covers_last cs ds b ss s h.1 k)
 
--- THE TARGET
-pub nothing_long : {X : Type 0} (xs : List X) → length xs ≡ 0 → xs ≡ []
-nothing_long [] h = refl
-nothing_long (x ∷ xs) h = let k : suc (length xs) ≡ 0 = h in absurd (omega (arith, k))
-
-module _ (ds : List Child) (rises : HasRisingIds ds) (e : EntryFacts) (own : (c : Child) → at_child ds e.id ≡ Some c → c ≡ child_of e) where
-  pub own_some : contends e.id (wanting e.parent e.rdn ds) ≡ true → place_in ds e.id ≡ Some (is_beaten (wanting e.parent e.rdn ds) (contender (child_of e)))
-  own_some h =
-      let w = contends_wants e.parent e.rdn e.id ds h in
-      let found : at_child ds e.id ≡ Some w.0 = subst (λ u. at_child ds u ≡ Some w.0) w.3 (found_member w.0 ds rises w.1) in
-      ap (option_map (loses_in ds)) (found ∙ ap Some (own w.0 found))
-
-  pub own_none : contends e.id (wanting e.parent e.rdn ds) ≡ false → uid_eq e.id suffix_id ≡ false → place_in ds e.id ≡ None
-  own_none h n = by (at_child ds e.id) refl
-    where
-      by : (o : Option Child) → at_child ds e.id ≡ o → place_in ds e.id ≡ None
-      by None k = ap (option_map (loses_in ds)) k
-      by (Some c) k =
-          let there : IsOneOf (child_of e) ds = subst (λ (x : Child). IsOneOf x ds) (own c k) (found_there e.id c ds k).0 in
-          never (contends e.id (wanting e.parent e.rdn ds)) (wants_contends e.parent e.rdn (child_of e) ds there (stands_own (child_of e) n)) h
+-- the target, where it has no place yet
+pub own_stays : (cs ds : List Child) (u : Uid) (places : BTreeMap Uid (Option Bool)) → (uid_eq u suffix_id ≡ true → place_in cs u ≡ place_in ds u) → LeavesRest cs ds places → is_some (get uid_cmp places u) ≡ false → place_in cs u ≡ place_in ds u
+own_stays cs ds u places root rest none = decide (uid_eq u suffix_id) root (λ f. rest u f (nothing (get uid_cmp places u) none))
+  where
+    nothing : (o : Option (Option Bool)) → is_some o ≡ false → o ≡ None
+    nothing None h = refl
+    nothing (Some x) h = let e : true ≡ false = h in cc

@@ -18,7 +18,7 @@ use Rattle.urp_tree.specs.declared.step.Step.TheVariants.{Enter, Leave}
 use Rattle.urp_tree.specs.Index.{stands_below, is_among_children, put_child, without_child, HasRisingIds, IsOneOf}
 use Rattle.urp_tree.specs.Walk.{child_of, stepped, step_of, child_in, IsTrueOf}
 use Rattle.urp_tree.specs.Known.{put_fact, fact_id, HasRisingFacts}
-use Rattle.urp_tree.specs.Climb.{count_below, IsFound, IsChain, leaves, enters, AreTrue, IsApart, AreApart}
+use Rattle.urp_tree.specs.Climb.{count_below, IsFound, IsChain, leaves, enters, AreTrue, IsApart, AreApart, IsBehindEnter, IsBehindLeave, AreLone}
 use Rattle.urp_tree.proofs.Children.{IsBelowAll, filter_put, put_back, without_fresh, only, fewer, filters}
 use Rattle.urp_tree.proofs.Walks.{stepped_last}
 use Rattle.urp_tree.proofs.Settled.{all_put}
@@ -200,6 +200,36 @@ pub apart_leaves : (cs : List Child) → AreApart (leaves cs)
 apart_leaves [] = tt
 apart_leaves (c ∷ cs) = apart_leaves cs
 
+abbrev IsComing : Step → Type 0
+IsComing (Enter c) = Unit {0}
+IsComing (Leave c) = ⊥
+
+come_last : (ss : List Step) (c : Child) → AllByRecursion IsComing ss → AllByRecursion IsComing (ss ++ Enter c ∷ [])
+come_last [] c h = (tt, tt)
+come_last (s ∷ ss) c h = (h.0, come_last ss c h.1)
+
+pub all_come : (chain : List Child) → AllByRecursion IsComing (enters chain)
+all_come [] = tt
+all_come (c ∷ chain) = come_last (enters chain) c (all_come chain)
+
+lone_coming : (ss : List Step) → AllByRecursion IsComing ss → AreApart ss → AreLone ss
+lone_coming [] h a = tt
+lone_coming (Enter c ∷ ss) h a = (each ss h.1 a.0, lone_coming ss h.1 a.1)
+  where
+    each : (ts : List Step) → AllByRecursion IsComing ts → AllByRecursion (IsApart c.parent) ts → AllByRecursion (IsBehindEnter c.parent) ts
+    each [] k b = tt
+    each (Enter d ∷ ts) k b = (b.0, each ts k.1 b.1)
+    each (Leave d ∷ ts) k b = elim k.0 [ ]
+lone_coming (Leave c ∷ ss) h a = elim h.0 [ ]
+
+-- those who come have names of their own
+pub lone_enters : (chain : List Child) (c : Child) → AreApart (enters chain ++ Enter c ∷ []) → AreLone (enters chain ++ Enter c ∷ [])
+lone_enters chain c a = lone_coming (enters chain ++ Enter c ∷ []) (come_last (enters chain) c (all_come chain)) a
+
+pub behind_leave : (u : Uid) (cs : List Child) → AllByRecursion (IsUnder u) (leaves cs) → AllByRecursion (IsBehindLeave u) (leaves cs)
+behind_leave u [] h = tt
+behind_leave u (c ∷ cs) h = (ap is_eq (uid_total.antisymm u c.parent ∙ ap ordering_reverse h.0), behind_leave u cs h.1)
+
 -- an entry that is no root stands below its parent
 abbrev pub AreRootsLive : List EntryFacts → Type 0
 AreRootsLive es = AllByRecursion (λ (e : EntryFacts). uid_eq e.id suffix_id ≡ true → is_live e ≡ true) es
@@ -234,6 +264,18 @@ module _ (e : EntryFacts) (fs : List EntryFacts) (rises : HasRisingFacts fs) (be
 
   pub stands : (u : Uid) (f : EntryFacts) → uid_cmp u e.id ≡ Less → IsFound fs u f → StandsAt u f fs × StandsAt u f after
   stands u f l h = let at = found_at u f fs rises h in (at, at_put e u f fs (swap_less u e.id l) at)
+
+  -- and have names of their own
+  pub chain_under : (n : ℕ) (cs : List Child) (u : Uid) (chain : List Child) → IsChain n fs cs u chain → AllByRecursion (IsUnder u) (leaves chain) × AreLone (leaves chain)
+  chain_under n cs u [] h = (tt, tt)
+  chain_under n cs u (c ∷ chain) h =
+      let f : EntryFacts = h.0 in
+      let at = found_at u f fs rises h.1 in
+      let low = dead_below f (all_at HasParentBelow u f fs at below) (all_at (λ (x : EntryFacts). uid_eq x.id suffix_id ≡ true → is_live x ≡ true) u f fs at roots) h.3 in
+      let lower : uid_cmp f.parent u ≡ Less = subst (λ v. uid_cmp f.parent v ≡ Less) (id_at u f fs at) low.0 in
+      let own : uid_cmp c.parent u ≡ Less = subst (λ (d : Child). uid_cmp d.parent u ≡ Less) (sym h.2) lower in
+      let more = chain_under n cs c.parent chain h.5 in
+      ((own, under_more c.parent u (leaves chain) own more.0), (behind_leave c.parent chain more.0, more.1))
 
   -- those that go: cs are the children before
   pub down : (cs : List Child) (u : Uid) (chain : List Child) → uid_cmp u e.id ≡ Less → IsChain 1 fs cs u chain

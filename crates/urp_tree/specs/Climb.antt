@@ -14,7 +14,7 @@ use Rattle.urp_tree.specs.declared.step.Step.{Step}
 use Rattle.urp_tree.specs.declared.step.Step.TheVariants.{Enter, Leave}
 use Rattle.urp_tree.specs.Index.{stands_below, spare_at}
 use Rattle.urp_tree.specs.Rows.{row_at}
-use Rattle.urp_tree.specs.Walk.{child_of, children_of_facts, stepped, step_of, IsTrueOf}
+use Rattle.urp_tree.specs.Walk.{child_of, child_in, children_of_facts, stepped, step_of, IsTrueOf}
 use Rattle.urp_tree.specs.Known.{put_fact}
 
 -- how many of some children stand below an entry
@@ -53,6 +53,26 @@ AreApart [] = Unit {0}
 AreApart (Enter c ∷ ss) = AllByRecursion (IsApart c.parent) ss × AreApart ss
 AreApart (Leave c ∷ ss) = AreApart ss
 
+-- each step is about another parent than those after it, and who leaves does not come back
+abbrev pub IsBehindEnter : Uid → Step → Type 0
+IsBehindEnter p s = uid_eq p (child_in s).parent ≡ false
+
+abbrev pub IsBehindLeave : Uid → Step → Type 0
+IsBehindLeave p (Enter c) = ⊥
+IsBehindLeave p (Leave c) = uid_eq p c.parent ≡ false
+
+abbrev pub AreLone : List Step → Type 0
+AreLone [] = Unit {0}
+AreLone (Enter c ∷ ss) = AllByRecursion (IsBehindEnter c.parent) ss × AreLone ss
+AreLone (Leave c ∷ ss) = AllByRecursion (IsBehindLeave c.parent) ss × AreLone ss
+
+-- one child moves
+abbrev pub IsPair : Child → Child → List Step → Type 0
+IsPair a b ss = ss ≡ Leave a ∷ Enter b ∷ []
+
+abbrev pub IsMove : List Step → Type 0
+IsMove ss = (a : Child) × (b : Child) × (a.id ≡ b.id) × IsPair a b ss
+
 -- there is room for who enters
 abbrev pub RoomFor : BTreeMap Uid (Option Row) → Step → Type 0
 RoomFor rows (Enter c) = IfSome (row_at rows c.parent) (λ (r : Row). 0 < spare_at r.names c.rdn)
@@ -63,6 +83,7 @@ pub record IsWay (n : ℕ) (es : List EntryFacts) (e : EntryFacts) (ss : List St
   pub leads : stepped ss (children_of_facts es) ≡ children_of_facts (put_fact e es)
   pub trues : AreTrue n (children_of_facts es) ss
   pub apart : AreApart ss
+  pub form : AreLone ss ⊎ IsMove ss
 
 -- in the rows: an entry that is not live and has just so many present children, and an id that has none such
 pub record IsWeakAt (n : ℕ) (rows : BTreeMap Uid (Option Row)) (u : Uid) (e : EntryFacts) : Type 0 where

@@ -12,7 +12,7 @@ ghost use Rattle.urp_tree.specs.Placed.{same_bool, same_place};
 ghost use Rattle.urp_tree.specs.Changes.{shown_with, before_of, changed_as, changes_of, AreChanges};
 
 use crate::named::same_id;
-use crate::places::{Places, own_place, place, places_after};
+use crate::places::{Places, place, places_after, put_own};
 use crate::room::seat_count;
 use crate::row::Row;
 use crate::seat::Rows;
@@ -171,8 +171,8 @@ fn listed(rows: &Rows, alloc: Global, new: &Row, places: &Places) -> Result<Chan
     Ok(list)
 }
 
-/// The target of a plan and the entries that differ, in rising order of id. For each a logarithm, a copy of its
-/// names and of its values, besides what [`places_after`] takes.
+/// The target of a plan and the entries that differ, in rising order of id. For each a logarithm, and a copy of its
+/// names and of its values.
 pub(crate) fn changes(
     rows: &Rows,
     alloc: Global,
@@ -191,8 +191,8 @@ pub(crate) fn changes(
 {
     let _seats = seat_count(rows);
     let mut places = places_after(rows, alloc, steps)?;
-    let own = own_place(rows, alloc, steps, &new.entry)?;
     let target = new.entry_id();
-    places.insert(target, own)?;
+    put_own(rows, target, &mut places)?;
+    let _count = places.len();
     listed(rows, alloc, new, &places)
 }
