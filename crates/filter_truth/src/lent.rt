@@ -98,12 +98,7 @@ fn shows_conflict_by<V: View>(
     Some(shows(own, asserted))
 }
 
-fn shows_conflict<V: View>(
-    view: &V,
-    id: Uid,
-    own: &[Shown],
-    asserted: &Assertion,
-) -> Option<bool>
+fn shows_conflict<V: View>(view: &V, id: Uid, own: &[Shown], asserted: &Assertion) -> Option<bool>
     requires rises { Rises name_of own.now }
     requires lent { own_of (V.view view.now) id ≡ Some own.now }
     requires named { bytes_eq asserted.now.attr.name (codes "nsds5replconflict") ≡ true }
