@@ -29,14 +29,50 @@ pub fn run<L: Ledger>(rt: &HostRuntime, steps: &mut Steps<L>) -> Result<()> {
 
 /// A value is put in and taken out; the first version still has it.
 fn small<L: Ledger>(rt: &HostRuntime, steps: &mut Steps<L>) -> Result<()> {
-    let none: CowMap<u32, &str> = CowMap::new();
-    let with = none.with(rt.alloc(), 1, "a", steps)?;
-    let without = with.without(rt.alloc(), &1, steps)?;
-    let shared = with.share(rt.alloc())?;
-    println!(rt; "with: {:?}", with.get(&1, steps))?;
-    println!(rt; "without: {:?}", without.get(&1, steps))?;
-    println!(rt; "shared: {:?}", shared.get(&1, steps))?;
+    let alloc = rt.alloc();
+    let none = CowMap::new();
+    let with = with_text(alloc, &none, steps)?;
+    let without = without_text(alloc, &with, steps)?;
+    let shared = with.share(alloc)?;
+    tell_small(rt, &with, &without, &shared, steps)?;
     Ok(())
+}
+
+fn tell_small<L: Ledger>(
+    rt: &HostRuntime,
+    with: &CowMap<u32, &'static str>,
+    without: &CowMap<u32, &'static str>,
+    shared: &CowMap<u32, &'static str>,
+    steps: &mut Steps<L>,
+) -> io::Result<()> {
+    tell_text(rt, "with", with, steps)?;
+    tell_text(rt, "without", without, steps)?;
+    tell_text(rt, "shared", shared, steps)
+}
+
+fn with_text<L: Ledger>(
+    alloc: Global,
+    map: &CowMap<u32, &'static str>,
+    steps: &mut Steps<L>,
+) -> Result<CowMap<u32, &'static str>, NoMemory> {
+    map.with(alloc, 1, "a", steps)
+}
+
+fn without_text<L: Ledger>(
+    alloc: Global,
+    map: &CowMap<u32, &'static str>,
+    steps: &mut Steps<L>,
+) -> Result<CowMap<u32, &'static str>, NoMemory> {
+    map.without(alloc, &1, steps)
+}
+
+fn tell_text<L: Ledger>(
+    rt: &HostRuntime,
+    name: &str,
+    map: &CowMap<u32, &'static str>,
+    steps: &mut Steps<L>,
+) -> io::Result<()> {
+    println!(rt; "{name}: {:?}", map.get(&1, steps))
 }
 
 /// A sequence of changes of both maps. All versions are looked at again at its end.
@@ -50,8 +86,18 @@ fn sequence<L: Ledger>(
     let mut plain = BTreeMap::new(alloc);
     let mut versions = Vec::new(alloc);
     let agreed = carry_out(alloc, pattern, &mut plain, &mut versions, steps)?;
-    let same = same_versions(alloc, versions.as_slice())?;
-    tell(rt, name, plain.len(), agreed, same)?;
+    tell_versions(rt, name, plain.len(), agreed, versions.as_slice())
+}
+
+fn tell_versions(
+    rt: &HostRuntime,
+    name: &str,
+    rows: usize,
+    agreed: u64,
+    versions: &[Kept],
+) -> Result<()> {
+    let same = same_versions(rt.alloc(), versions)?;
+    tell(rt, name, rows, agreed, same)?;
     Ok(())
 }
 
@@ -95,7 +141,8 @@ fn change_plain(plain: &mut BTreeMap<u64, u64>, change: Change) -> Result<(), No
     Ok(())
 }
 
-fn next_version<L: Ledger>(
+/// The version after a change.
+pub fn next_version<L: Ledger>(
     alloc: Global,
     map: &CowMap<u64, u64>,
     change: Change,
@@ -124,11 +171,14 @@ fn keep(
     plain: &BTreeMap<u64, u64>,
     versions: &mut Vec<Kept>,
 ) -> Result<(), NoMemory> {
-    versions.push(Kept {
-        version: map.share(alloc)?,
-        expected: plain_digest(plain),
-    })?;
+    let expected = plain_digest(plain);
+    let version = shared(alloc, map)?;
+    versions.push(Kept { version, expected })?;
     Ok(())
+}
+
+fn shared(alloc: Global, map: &CowMap<u64, u64>) -> Result<CowMap<u64, u64>, NoMemory> {
+    map.share(alloc)
 }
 
 /// How many versions have the rows that they are to have.

@@ -1,5 +1,6 @@
 // How long calls take on a map of many rows.
-use crate::changes::Numbers;
+use crate::cases::next_version;
+use crate::changes::{Change, Numbers};
 use anyhow::Result;
 use cow_map::{CowMap, NoMemory, Steps};
 use std::alloc::Global;
@@ -19,11 +20,31 @@ pub fn run<L: Ledger>(rt: &HostRuntime, rows: u64, steps: &mut Steps<L>) -> Resu
     let start = Instant::now(rt)?;
     let map = made(rt.alloc(), rows, steps)?;
     let made = nanos_each(start.elapsed(rt)?, rows);
+    tell(rt, &map, rows, made, steps)
+}
+
+fn tell<L: Ledger>(
+    rt: &HostRuntime,
+    map: &CowMap<u64, u64>,
+    rows: u64,
+    made: u128,
+    steps: &mut Steps<L>,
+) -> Result<()> {
     let peak = peak(rt)?;
-    let changed = changes(rt, &map, rows, steps)?;
-    let (found, looked_up) = lookups(rt, &map, rows, steps)?;
+    let changed = changes(rt, map, rows, steps)?;
+    let (found, looked_up) = lookups(rt, map, rows, steps)?;
     println!(rt; "{rows} {made} {changed} {looked_up} {found} {peak}")?;
     Ok(())
+}
+
+fn with<L: Ledger>(
+    alloc: Global,
+    map: &CowMap<u64, u64>,
+    key: u64,
+    steps: &mut Steps<L>,
+) -> Result<CowMap<u64, u64>, NoMemory> {
+    let value = key;
+    next_version(alloc, map, Change::With { key, value }, steps)
 }
 
 fn made<L: Ledger>(
@@ -33,7 +54,7 @@ fn made<L: Ledger>(
 ) -> Result<CowMap<u64, u64>, NoMemory> {
     let mut map = CowMap::new();
     for key in 0..rows {
-        map = map.with(alloc, key, key, steps)?;
+        map = with(alloc, &map, key, steps)?;
     }
     Ok(map)
 }
@@ -48,7 +69,7 @@ fn changes<L: Ledger>(
     let start = Instant::now(rt)?;
     for _ in 0..CHANGES {
         let key = numbers.draw().checked_rem(rows).unwrap_or(0);
-        let _ = map.with(rt.alloc(), key, key, steps)?;
+        let _ = with(rt.alloc(), map, key, steps)?;
     }
     Ok(nanos_each(start.elapsed(rt)?, CHANGES))
 }

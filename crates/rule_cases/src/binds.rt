@@ -1,9 +1,10 @@
 //! Whom a bind names.
 
-use crate::adds::tell_refusal;
+use crate::asked::tell_refusal;
+use crate::requests::next_bytes;
 use case_lines::{CaseFault, Fields, or_memory};
 use ldap_rules::{Identity, judge_bind};
-use ldap_types::{Auth, BindRequest, Bytes};
+use ldap_types::{Auth, BindRequest};
 use std::alloc::Global;
 
 /// The password of the next word, or a mechanism of SASL.
@@ -13,8 +14,7 @@ fn read_auth(alloc: Global, fields: &mut Fields<'_>) -> Result<Auth, CaseFault> 
         *fields = ahead;
         return Ok(Auth::Sasl);
     }
-    let password = fields.bytes(alloc)?;
-    Ok(Auth::Simple(or_memory(Bytes::from_slice(alloc, password.as_slice()))?))
+    Ok(Auth::Simple(next_bytes(alloc, fields)?))
 }
 
 fn read_version(word: &str) -> Result<i64, CaseFault> {
@@ -27,8 +27,7 @@ fn read_version(word: &str) -> Result<i64, CaseFault> {
 /// A version, a name, and a password or `sasl`.
 fn read_bind(alloc: Global, fields: &mut Fields<'_>) -> Result<BindRequest, CaseFault> {
     let version = read_version(fields.word()?)?;
-    let name = fields.bytes(alloc)?;
-    let name = or_memory(Bytes::from_slice(alloc, name.as_slice()))?;
+    let name = next_bytes(alloc, fields)?;
     let auth = read_auth(alloc, fields)?;
     Ok(BindRequest {
         version,

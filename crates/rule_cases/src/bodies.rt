@@ -1,7 +1,6 @@
 //! What is written: adds, and the parts of other bodies.
 
-use crate::adds::judged;
-use crate::requests::read_add;
+use crate::asked::{Form, judged, next_request};
 use case_lines::{CaseFault, Fields};
 use case_views::tell_optional_uid;
 use ldap_rules::{Identity, JudgeFault, Judged};
@@ -109,7 +108,7 @@ pub fn written(
     fields: &mut Fields<'_>,
     told: &mut String,
 ) -> Result<(), CaseFault> {
-    let request = read_add(alloc, fields)?;
+    let request = next_request(alloc, fields, Form::Add)?;
     let judged = judged(alloc, view, &request, Identity::Manager);
     tell_written(told, &judged)
 }

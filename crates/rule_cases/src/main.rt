@@ -2,17 +2,18 @@
 //! compare is answered.
 #![tactic(auto)]
 
-mod adds;
+mod asked;
 mod binds;
 mod bodies;
 mod entries;
 mod modifies;
 mod requests;
 
+use asked::{Form, refusal, verdict};
 use case_lines::{CaseFault, Fields, Subjects, or_memory, run_cases};
 use case_views::{Taken, example_suffix};
 use plain_view::PlainView;
-use repl_data::Suffix;
+use repl_data::{Change, NoMemory, Suffix};
 use std::alloc::Global;
 use std::process::ExitCode;
 
@@ -24,12 +25,47 @@ struct Rules {
     view: PlainView,
 }
 
+fn view_of(alloc: Global, suffix: &Suffix, changes: &[Change]) -> Result<PlainView, NoMemory> {
+    PlainView::of(alloc, suffix, changes)
+}
+
+/// The view of the changes at these places.
+fn picked_view(
+    alloc: Global,
+    suffix: &Suffix,
+    taken: &Taken,
+    places: &str,
+) -> Result<PlainView, CaseFault> {
+    let changes = taken.picked(alloc, places)?;
+    or_memory(view_of(alloc, suffix, changes.as_slice()))
+}
+
 impl Rules {
     /// Judges by the view of the changes at these places.
     fn look(&mut self, alloc: Global, places: &str) -> Result<(), CaseFault> {
-        let changes = self.taken.picked(alloc, places)?;
-        self.view = or_memory(PlainView::of(alloc, &self.suffix, changes.as_slice()))?;
+        self.view = picked_view(alloc, &self.suffix, &self.taken, places)?;
         Ok(())
+    }
+
+    /// What becomes of a request of this subject.
+    fn ask(
+        &self,
+        alloc: Global,
+        subject: &str,
+        fields: &mut Fields<'_>,
+        told: &mut String,
+    ) -> Result<(), CaseFault> {
+        let view = &self.view;
+        match subject {
+            "add" => refusal(alloc, view, fields, Form::Add, told),
+            "modify_code" => refusal(alloc, view, fields, Form::Modify, told),
+            "rename_code" => refusal(alloc, view, fields, Form::Rename, told),
+            "modify" => verdict(alloc, view, fields, Form::Modify, told),
+            "delete" => verdict(alloc, view, fields, Form::Delete, told),
+            "rename" => verdict(alloc, view, fields, Form::Rename, told),
+            "compare" => verdict(alloc, view, fields, Form::Compare, told),
+            _ => Err(CaseFault::Subject),
+        }
     }
 }
 
@@ -48,16 +84,9 @@ impl Subjects for Rules {
             }
             "change" => self.taken.take(alloc, fields, told),
             "view" => self.look(alloc, fields.word()?),
-            "add" => adds::refusal(alloc, &self.view, fields, told),
             "body" => bodies::written(alloc, &self.view, fields, told),
-            "delete" => entries::delete(alloc, &self.view, fields, told),
-            "rename" => entries::rename(alloc, &self.view, fields, told),
-            "rename_code" => entries::rename_code(alloc, &self.view, fields, told),
-            "modify" => modifies::modify(alloc, &self.view, fields, told),
-            "modify_code" => modifies::code(alloc, &self.view, fields, told),
-            "compare" => entries::compare(alloc, &self.view, fields, told),
             "bind" => binds::answer(alloc, fields, told),
-            _ => Err(CaseFault::Subject),
+            _ => self.ask(alloc, subject, fields, told),
         }
     }
 }
@@ -65,11 +94,9 @@ impl Subjects for Rules {
 /// The rules over the suffix `dc=example`, without changes.
 fn without_changes(alloc: Global) -> Result<Rules, CaseFault> {
     let suffix = example_suffix(alloc)?;
-    let taken = Taken::new(alloc);
-    let changes = taken.picked(alloc, "-")?;
-    let view = or_memory(PlainView::of(alloc, &suffix, changes.as_slice()))?;
+    let view = picked_view(alloc, &suffix, &Taken::new(alloc), "-")?;
     Ok(Rules {
-        taken,
+        taken: Taken::new(alloc),
         suffix,
         view,
     })

@@ -1,12 +1,8 @@
-//! Modifies of entries: why they are refused, and what they write.
+//! Modifies of entries as words.
 
-use crate::adds::{judged, tell_judged};
-use crate::entries::tell_verdict;
-use crate::requests::{next_bytes, next_controls, put_one, raw_attr, read_identity};
+use crate::requests::{next_bytes, put_one, raw_attr};
 use case_lines::{CaseFault, Fields, or_memory};
-use ldap_rules::{JudgeFault, Judged};
-use ldap_types::{Op, RawAttr, RawAttrList, RawMod, RawModList, Request};
-use plain_view::PlainView;
+use ldap_types::{Op, RawAttr, RawAttrList, RawMod, RawModList};
 use repl_data::Items;
 use std::alloc::Global;
 
@@ -35,6 +31,18 @@ fn put_mod(mods: &mut RawModList, kind: i64, attr: RawAttr) -> Result<(), CaseFa
     or_memory(mods.push(RawMod { kind, name, vals }))
 }
 
+fn put_copies(
+    mods: &mut RawModList,
+    kind: i64,
+    attr: &RawAttr,
+    count: u64,
+) -> Result<(), CaseFault> {
+    for _ in 0..count {
+        put_mod(mods, kind, or_memory(attr.clone())?)?;
+    }
+    Ok(())
+}
+
 /// The same modification, so many times.
 fn put_times(
     alloc: Global,
@@ -44,10 +52,7 @@ fn put_times(
     let count = fields.number()?;
     let kind = read_kind(fields.word()?)?;
     let attr = next_attr(alloc, fields)?;
-    for _ in 0..count {
-        put_mod(mods, kind, or_memory(attr.clone())?)?;
-    }
-    Ok(())
+    put_copies(mods, kind, &attr, count)
 }
 
 /// So many attributes of this name, each with a value of its own.
@@ -60,6 +65,13 @@ fn own_values(alloc: Global, name: &[u8], count: u64) -> Result<RawAttrList, Cas
     Ok(attrs)
 }
 
+fn put_all(mods: &mut RawModList, kind: i64, attrs: &[RawAttr]) -> Result<(), CaseFault> {
+    for attr in attrs {
+        put_copies(mods, kind, attr, 1)?;
+    }
+    Ok(())
+}
+
 /// So many modifications of one attribute, each with a value of its own.
 fn put_each(
     alloc: Global,
@@ -70,10 +82,7 @@ fn put_each(
     let kind = read_kind(fields.word()?)?;
     let name = fields.bytes(alloc)?;
     let attrs = own_values(alloc, name.as_slice(), count)?;
-    for attr in attrs.as_slice() {
-        put_mod(mods, kind, or_memory(attr.clone())?)?;
-    }
-    Ok(())
+    put_all(mods, kind, attrs.as_slice())
 }
 
 /// Appends what the next words write: a modification, or so many.
@@ -105,48 +114,9 @@ fn read_mods(alloc: Global, fields: &mut Fields<'_>) -> Result<RawModList, CaseF
     Ok(mods)
 }
 
-/// A modify: controls, the name, and the modifications.
-fn read_modify(alloc: Global, fields: &mut Fields<'_>) -> Result<Request, CaseFault> {
-    let controls = next_controls(alloc, fields)?;
+/// A modify: the name and the modifications.
+pub fn next_modify(alloc: Global, fields: &mut Fields<'_>) -> Result<Op, CaseFault> {
     let object = next_bytes(alloc, fields)?;
     let mods = read_mods(alloc, fields)?;
-    let op = Op::Modify { object, mods };
-    Ok(Request {
-        id: 2,
-        op,
-        controls,
-    })
-}
-
-/// Judges the identity's modify.
-fn judge_next(
-    alloc: Global,
-    view: &PlainView,
-    fields: &mut Fields<'_>,
-) -> Result<Result<Judged, JudgeFault>, CaseFault> {
-    let bound = read_identity(fields.word()?)?;
-    let request = read_modify(alloc, fields)?;
-    Ok(judged(alloc, view, &request, bound))
-}
-
-/// What becomes of a modify: who asks, controls, the name, and the modifications.
-pub fn modify(
-    alloc: Global,
-    view: &PlainView,
-    fields: &mut Fields<'_>,
-    told: &mut String,
-) -> Result<(), CaseFault> {
-    let verdict = judge_next(alloc, view, fields)?;
-    tell_verdict(told, &verdict)
-}
-
-/// The code of a modify's refusal and the matched name, and `0` for what is not refused.
-pub fn code(
-    alloc: Global,
-    view: &PlainView,
-    fields: &mut Fields<'_>,
-    told: &mut String,
-) -> Result<(), CaseFault> {
-    let verdict = judge_next(alloc, view, fields)?;
-    tell_judged(told, &verdict)
+    Ok(Op::Modify { object, mods })
 }

@@ -2,9 +2,7 @@
 
 use case_lines::{CaseFault, Fields, or_memory};
 use ldap_rules::Identity;
-use ldap_types::{
-    Bytes, BytesList, Control, ControlList, NoMemory, Op, RawAttr, RawAttrList, Request,
-};
+use ldap_types::{Bytes, BytesList, Control, ControlList, NoMemory, Op, RawAttr, RawAttrList};
 use repl_data::Items;
 use std::alloc::Global;
 
@@ -160,15 +158,9 @@ pub fn next_bytes(alloc: Global, fields: &mut Fields<'_>) -> Result<Bytes, CaseF
     or_memory(Bytes::from_slice(alloc, bytes.as_slice()))
 }
 
-/// An add: controls, the name, and attributes.
-pub fn read_add(alloc: Global, fields: &mut Fields<'_>) -> Result<Request, CaseFault> {
-    let controls = next_controls(alloc, fields)?;
+/// An add: the name and attributes.
+pub fn next_add(alloc: Global, fields: &mut Fields<'_>) -> Result<Op, CaseFault> {
     let object = next_bytes(alloc, fields)?;
     let attrs = read_attrs(alloc, fields)?;
-    let op = Op::Add { object, attrs };
-    Ok(Request {
-        id: 2,
-        op,
-        controls,
-    })
+    Ok(Op::Add { object, attrs })
 }

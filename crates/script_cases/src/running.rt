@@ -60,14 +60,25 @@ fn judge_last(
     tally: &mut Tally,
     report: &mut String,
 ) -> Result<(), AllocError> {
-    let mut script = String::from_str(alloc, block.script.as_str())?;
-    script.push_str(last)?;
-    judge_script(alloc, block, script.as_str(), tally, report)?;
+    judge_joined(alloc, block, last, "", tally, report)?;
     if block.then.is_empty() {
         return Ok(());
     }
-    script.push('\n')?;
-    script.push_str(block.then.as_str())?;
+    judge_joined(alloc, block, last, block.then.as_str(), tally, report)
+}
+
+/// Carries out the script with this last line and what comes behind it, if anything does.
+fn judge_joined(
+    alloc: Global,
+    block: &Block<'_>,
+    last: &str,
+    then: &str,
+    tally: &mut Tally,
+    report: &mut String,
+) -> Result<(), AllocError> {
+    let between = if then.is_empty() { "" } else { "\n" };
+    let script = block.script.as_str();
+    let script = format!(in alloc; "{script}{last}{between}{then}")?;
     judge_script(alloc, block, script.as_str(), tally, report)
 }
 
@@ -82,16 +93,26 @@ fn judge_script(
     tally.scripts = tally.scripts.saturating_add(1);
     for piece in block.pieces.split_whitespace() {
         tally.runs = tally.runs.saturating_add(1);
-        let is_same = match piece.parse::<usize>() {
-            Ok(most) if most > 0 => judge_run(alloc, block, script, most, report)?,
-            _ => false,
-        };
-        if !is_same {
+        if !judge_pieces(alloc, block, script, piece, report)? {
             tally.differing = tally.differing.saturating_add(1);
             writeln!(report, "{}: differs in pieces of {piece}", block.name)?;
         }
     }
     Ok(())
+}
+
+/// Whether a run in pieces of this size comes to what the block says.
+fn judge_pieces(
+    alloc: Global,
+    block: &Block<'_>,
+    script: &str,
+    piece: &str,
+    report: &mut String,
+) -> Result<bool, AllocError> {
+    match piece.parse::<usize>() {
+        Ok(most) if most > 0 => judge_run(alloc, block, script, most, report),
+        _ => Ok(false),
+    }
 }
 
 /// What a run came to: its status in words, and what it wrote.
@@ -112,16 +133,25 @@ fn judge_run(
     requires { 0 < most }
 {
     let run = run_script(alloc, block, script, most)?;
-    let same_status = run.status.as_str() == block.status;
-    if !same_status {
-        writeln!(report, "wanted status {}, got {}", block.status, run.status)?;
-    }
-    let wanted = block.output.as_bytes();
-    let same_output = run.output.as_slice() == wanted;
-    if !same_output {
-        tell_output(report, wanted, run.output.as_slice())?;
-    }
+    let same_status = judge_status(block.status, run.status.as_str(), report)?;
+    let same_output = judge_output(block.output.as_bytes(), run.output.as_slice(), report)?;
     Ok(same_status && same_output)
+}
+
+fn judge_status(wanted: &str, came: &str, report: &mut String) -> Result<bool, AllocError> {
+    let is_same = came == wanted;
+    if !is_same {
+        writeln!(report, "wanted status {wanted}, got {came}")?;
+    }
+    Ok(is_same)
+}
+
+fn judge_output(wanted: &[u8], came: &[u8], report: &mut String) -> Result<bool, AllocError> {
+    let is_same = came == wanted;
+    if !is_same {
+        tell_output(report, wanted, came)?;
+    }
+    Ok(is_same)
 }
 
 /// Carries out the script once.
@@ -139,11 +169,28 @@ fn run_script(
     let kept = block.keeping.parse::<usize>().unwrap_or(0);
     let mut source = MemSource::in_pieces(script.as_bytes(), reads.as_slice(), most);
     let mut sink = MemSink::keeping(alloc, writes.as_slice(), kept);
-    let status = exec_main(alloc, words.as_slice(), &mut source, &mut sink);
-    Ok(Run {
-        status: status_words(alloc, &status)?,
-        output: Vec::from_slice(alloc, sink.written())?,
-    })
+    carry_out(alloc, words.as_slice(), &mut source, &mut sink)
+}
+
+fn carry_out(
+    alloc: Global,
+    words: &[String],
+    source: &mut MemSource<'_>,
+    sink: &mut MemSink<'_>,
+) -> Result<Run, AllocError> {
+    let status = status_of(alloc, words, source, sink);
+    let status = status_words(alloc, &status)?;
+    let output = Vec::from_slice(alloc, sink.written())?;
+    Ok(Run { status, output })
+}
+
+fn status_of(
+    alloc: Global,
+    words: &[String],
+    source: &mut MemSource<'_>,
+    sink: &mut MemSink<'_>,
+) -> Status {
+    exec_main(alloc, words, source, sink)
 }
 
 fn words(alloc: Global, text: &str) -> Result<Vec<String>, AllocError> {
@@ -165,14 +212,13 @@ fn numbers(alloc: Global, text: &str) -> Result<Vec<u64>, AllocError> {
 
 /// The number of a status, and its text where it has one.
 fn status_words(alloc: Global, status: &Status) -> Result<String, AllocError> {
-    let mut words = format!(in alloc; "{}", status.number())?;
     let Ok(text) = status.text(alloc) else {
         return Err(AllocError);
     };
-    if !text.is_empty() {
-        words.push_str(" ")?;
-        words.push_str(printed(text.as_slice()))?;
-    }
+    let between = if text.is_empty() { "" } else { " " };
+    let number = status.number();
+    let text = printed(text.as_slice());
+    let words = format!(in alloc; "{number}{between}{text}")?;
     Ok(words)
 }
 

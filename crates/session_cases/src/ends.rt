@@ -18,22 +18,35 @@ impl Offered {
         let mut updates = Items::new(alloc);
         let mut prev = Csn::ZERO;
         for seq in 0..count {
-            let csn = Csn {
-                time: 100,
-                seq,
-                rid: 1,
-                sub: 0,
-            };
-            let change = Change {
-                csn,
-                target: Uid { csn: prev },
-                body: Body::Del,
-            };
-            or_memory(updates.push(Update { change, prev }))?;
-            prev = csn;
+            let update = delete_after(prev, seq);
+            prev = update.change.csn;
+            or_memory(updates.push(update))?;
         }
         Ok(Offered { updates })
     }
+}
+
+/// The delete with this sequence number, behind the one with this CSN.
+fn delete_after(prev: Csn, seq: u16) -> Update {
+    let csn = Csn {
+        time: 100,
+        seq,
+        rid: 1,
+        sub: 0,
+    };
+    let change = Change {
+        csn,
+        target: Uid { csn: prev },
+        body: Body::Del,
+    };
+    Update { change, prev }
+}
+
+fn raise_all(alloc: Global, vector: &mut Vector, updates: &[Update]) -> Result<(), NoMemory> {
+    for update in updates {
+        vector.raise(alloc, update.change.csn)?;
+    }
+    Ok(())
 }
 
 impl Supply for Offered {
@@ -41,9 +54,7 @@ impl Supply for Offered {
 
     fn front(&mut self, alloc: Global) -> Result<Vector, NoMemory> {
         let mut vector = Vector::new(alloc)?;
-        for update in self.updates.as_slice() {
-            vector.raise(alloc, update.change.csn)?;
-        }
+        raise_all(alloc, &mut vector, self.updates.as_slice())?;
         Ok(vector)
     }
 

@@ -20,6 +20,19 @@ struct Connection {
     node: Told,
 }
 
+impl Connection {
+    fn close(&mut self, told: &mut String) -> Result<(), CaseFault> {
+        self.consumer.closed(&mut self.node);
+        self.node.tell_holder(told)
+    }
+}
+
+fn tell_next_id(fields: &mut Fields<'_>, told: &mut String) -> Result<(), CaseFault> {
+    let id = next_id(session::next_u32(fields)?);
+    write!(told, "{id}")?;
+    Ok(())
+}
+
 impl Subjects for Connection {
     fn answer(
         &mut self,
@@ -29,28 +42,15 @@ impl Subjects for Connection {
         told: &mut String,
     ) -> Result<(), CaseFault> {
         match subject {
-            "session" => session::answer(alloc, fields, told),
+            "session" => session::tell(alloc, fields, told),
             "hear" => message::hear(alloc, &mut self.consumer, &mut self.node, fields, told),
             "connect" => {
                 self.consumer = Consumer::new();
                 Ok(())
             }
-            "close" => {
-                self.consumer.closed(&mut self.node);
-                self.node.tell_holder(told)
-            }
+            "close" => self.close(told),
             "holder" => self.node.tell_holder(told),
-            "next_id" => {
-                let id = next_id(
-                    fields
-                        .word()?
-                        .parse::<u32>()
-                        .ok()
-                        .ok_or(CaseFault::Argument)?,
-                );
-                write!(told, "{id}")?;
-                Ok(())
-            }
+            "next_id" => tell_next_id(fields, told),
             _ => Err(CaseFault::Subject),
         }
     }

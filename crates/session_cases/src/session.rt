@@ -1,11 +1,11 @@
 //! Whole sessions: how many updates there are, and what is answered otherwise, and where.
 
 use crate::ends::{Offered, Told};
-use crate::message::{NOW, over_bytes, request};
+use crate::message::{NOW, answer, over_bytes, request};
 use case_changes::{next_csn, next_uid};
 use case_lines::{CaseFault, Fields, or_memory, tell_text};
 use ldap_types::{Bytes, Code, LdapResult, Reply, ReplyOp};
-use repl_data::{AvaList, Malformed, Rdn, Suffix};
+use repl_data::{AvaList, Malformed, NoMemory, Rdn, Suffix};
 use replica_session::{
     AcquireFault, Applied, ApplyFault, Consumer, SessionEnd, Supplier, SupplyStep,
 };
@@ -41,42 +41,54 @@ fn plain(alloc: Global, number: u32) -> LdapResult {
     }
 }
 
-fn alter(alloc: Global, altered: Altered, reply: Reply) -> Reply {
-    let Reply { id, op } = reply;
-    match altered {
-        Altered::Nothing => Reply { id, op },
-        Altered::Id => Reply {
-            id: id.saturating_add(1),
-            op,
-        },
-        Altered::Kind => Reply {
-            id,
-            op: ReplyOp::Done(plain(alloc, 0)),
-        },
-        Altered::Value => Reply {
-            id,
-            op: ReplyOp::Extended {
-                result: plain(alloc, 0),
-                oid: None,
-                value: None,
-            },
-        },
-        Altered::Code(number) => coded(alloc, id, op, number),
+fn extended(alloc: Global, number: u32) -> ReplyOp {
+    ReplyOp::Extended {
+        result: plain(alloc, number),
+        oid: None,
+        value: None,
     }
 }
 
-fn coded(alloc: Global, id: u32, op: ReplyOp, number: u32) -> Reply {
-    let result = plain(alloc, number);
-    let op = match op {
-        ReplyOp::Bind(_) => ReplyOp::Bind(result),
-        ReplyOp::Delete(_) => ReplyOp::Delete(result),
-        _ => ReplyOp::Extended {
-            result,
-            oid: None,
-            value: None,
-        },
-    };
-    Reply { id, op }
+/// What stands in place of the operation of a reply, if another one does.
+fn altered_op(alloc: Global, altered: Altered, op: &ReplyOp) -> Option<ReplyOp> {
+    match altered {
+        Altered::Nothing | Altered::Id => None,
+        Altered::Kind => Some(ReplyOp::Done(plain(alloc, 0))),
+        Altered::Value => Some(extended(alloc, 0)),
+        Altered::Code(number) => Some(coded(alloc, op, number)),
+    }
+}
+
+fn coded(alloc: Global, op: &ReplyOp, number: u32) -> ReplyOp {
+    match op {
+        ReplyOp::Bind(_) => ReplyOp::Bind(plain(alloc, number)),
+        ReplyOp::Delete(_) => ReplyOp::Delete(plain(alloc, number)),
+        _ => extended(alloc, number),
+    }
+}
+
+fn alter(alloc: Global, altered: Altered, reply: &mut Reply) {
+    if altered == Altered::Id {
+        reply.id = reply.id.saturating_add(1);
+    }
+    if let Some(op) = altered_op(alloc, altered, &reply.op) {
+        reply.op = op;
+    }
+}
+
+fn next_u16(fields: &mut Fields<'_>) -> Result<u16, CaseFault> {
+    match fields.word()?.parse::<u16>() {
+        Ok(number) => Ok(number),
+        Err(_) => Err(CaseFault::Argument),
+    }
+}
+
+/// The number of the next word.
+pub fn next_u32(fields: &mut Fields<'_>) -> Result<u32, CaseFault> {
+    match fields.word()?.parse::<u32>() {
+        Ok(number) => Ok(number),
+        Err(_) => Err(CaseFault::Argument),
+    }
 }
 
 /// How the node answers the start.
@@ -84,14 +96,9 @@ fn start_answer(fields: &mut Fields<'_>) -> Result<AcquireFault, CaseFault> {
     match fields.word()? {
         "wrong_suffix" => Ok(AcquireFault::WrongSuffix),
         "same_id" => Ok(AcquireFault::SameId),
-        "busy" => {
-            let rid = fields
-                .word()?
-                .parse::<u16>()
-                .ok()
-                .ok_or(CaseFault::Argument)?;
-            Ok(AcquireFault::Busy { rid })
-        }
+        "busy" => Ok(AcquireFault::Busy {
+            rid: next_u16(fields)?,
+        }),
         "skew" => Ok(AcquireFault::Skew {
             csn: next_csn(fields)?,
             now: NOW,
@@ -132,14 +139,7 @@ fn next_altered(fields: &mut Fields<'_>) -> Result<Altered, CaseFault> {
         "id" => Ok(Altered::Id),
         "kind" => Ok(Altered::Kind),
         "value" => Ok(Altered::Value),
-        "code" => {
-            let number = fields
-                .word()?
-                .parse::<u32>()
-                .ok()
-                .ok_or(CaseFault::Argument)?;
-            Ok(Altered::Code(number))
-        }
+        "code" => Ok(Altered::Code(next_u32(fields)?)),
         _ => Err(CaseFault::Argument),
     }
 }
@@ -154,11 +154,7 @@ fn exception(node: &mut Told, fields: &mut Fields<'_>) -> Result<Alteration, Cas
         "plain" => {}
         "start" => node.start = Err(start_answer(fields)?),
         "update" => {
-            node.at = fields
-                .word()?
-                .parse::<u32>()
-                .ok()
-                .ok_or(CaseFault::Argument)?;
+            node.at = next_u32(fields)?;
             node.update = update_answer(fields)?;
         }
         "message" => {
@@ -193,38 +189,70 @@ fn example_suffix(alloc: Global) -> Result<Suffix, CaseFault> {
     })
 }
 
+fn new_supplier(alloc: Global) -> Result<Supplier, CaseFault> {
+    let suffix = example_suffix(alloc)?;
+    or_memory(Supplier::new(alloc, 1, &suffix))
+}
+
 /// Runs the session of supplier 1. Tells its end, how many messages the supplier sent, and who holds the node before
 /// and after the connection has ended.
-pub fn answer(alloc: Global, fields: &mut Fields<'_>, told: &mut String) -> Result<(), CaseFault> {
-    let count = fields
-        .word()?
-        .parse::<u16>()
-        .ok()
-        .ok_or(CaseFault::Argument)?;
-    let mut supply = Offered::deletes(alloc, count)?;
+pub fn tell(alloc: Global, fields: &mut Fields<'_>, told: &mut String) -> Result<(), CaseFault> {
+    let mut supply = Offered::deletes(alloc, next_u16(fields)?)?;
     let mut node = Told::new();
-    let alters = exception(&mut node, fields)?;
     let mut consumer = Consumer::new();
-    let mut supplier = or_memory(Supplier::new(alloc, 1, &example_suffix(alloc)?))?;
-    let (end, messages) = run(
-        alloc,
-        &mut supplier,
-        &mut supply,
-        &mut consumer,
-        &mut node,
-        alters,
-    )?;
-    tell_end(told, &end)?;
-    write!(told, ", {messages} messages, ")?;
+    tell_ends(alloc, fields, &mut supply, &mut consumer, &mut node, told)
+}
+
+fn tell_ends(
+    alloc: Global,
+    fields: &mut Fields<'_>,
+    supply: &mut Offered,
+    consumer: &mut Consumer,
+    node: &mut Told,
+    told: &mut String,
+) -> Result<(), CaseFault> {
+    let alters = exception(node, fields)?;
+    tell_session(alloc, supply, consumer, node, alters, told)?;
     node.tell_holder(told)?;
-    consumer.closed(&mut node);
+    consumer.closed(node);
     told.push_str(", then ")?;
     node.tell_holder(told)
 }
 
+fn tell_session(
+    alloc: Global,
+    supply: &mut Offered,
+    consumer: &mut Consumer,
+    node: &mut Told,
+    alters: Alteration,
+    told: &mut String,
+) -> Result<(), CaseFault> {
+    let mut supplier = new_supplier(alloc)?;
+    let ended = run(alloc, &mut supplier, supply, consumer, node, alters)?;
+    tell_ended(told, &ended)
+}
+
+/// How a session ended, and after how many messages of the supplier.
+#[derive(Drop)]
+struct Ended {
+    end: SessionEnd,
+    messages: u64,
+}
+
+fn tell_ended(told: &mut String, ended: &Ended) -> Result<(), CaseFault> {
+    tell_end(told, &ended.end)?;
+    let messages = ended.messages;
+    write!(told, ", {messages} messages, ")?;
+    Ok(())
+}
+
+fn first_bytes(alloc: Global, supplier: &mut Supplier) -> Result<Bytes, NoMemory> {
+    supplier.first(alloc)
+}
+
 /// The answer with 0 to the supplier's bind.
 fn bound(alloc: Global, supplier: &mut Supplier) -> Result<Reply, CaseFault> {
-    let bytes = or_memory(supplier.first(alloc))?;
+    let bytes = or_memory(first_bytes(alloc, supplier))?;
     let bind = request(alloc, bytes.as_slice())?;
     Ok(Reply {
         id: bind.id,
@@ -232,16 +260,42 @@ fn bound(alloc: Global, supplier: &mut Supplier) -> Result<Reply, CaseFault> {
     })
 }
 
-/// What the consumer answers to the message of these bytes.
+/// What the consumer answers to the message of these bytes, as it is read of its bytes.
 fn answered(
     alloc: Global,
     consumer: &mut Consumer,
     node: &mut Told,
     bytes: &[u8],
 ) -> Result<Reply, CaseFault> {
-    let message = request(alloc, bytes)?;
-    let answer = or_memory(consumer.hear(alloc, node, &message, NOW))?;
-    over_bytes(alloc, &answer)
+    let reply = answer(alloc, consumer, node, bytes)?;
+    over_bytes(alloc, &reply)
+}
+
+fn hear_reply(
+    alloc: Global,
+    supplier: &mut Supplier,
+    supply: &mut Offered,
+    reply: &Reply,
+) -> Result<SupplyStep, NoMemory> {
+    supplier.hear(alloc, supply, reply)
+}
+
+/// One reply is heard, and the next one is made: the end, if this is it.
+fn step(
+    alloc: Global,
+    supplier: &mut Supplier,
+    supply: &mut Offered,
+    consumer: &mut Consumer,
+    node: &mut Told,
+    reply: &mut Reply,
+) -> Result<Option<SessionEnd>, CaseFault> {
+    match or_memory(hear_reply(alloc, supplier, supply, reply))? {
+        SupplyStep::Ended(end) => Ok(Some(end)),
+        SupplyStep::Send(bytes) => {
+            *reply = answered(alloc, consumer, node, bytes.as_slice())?;
+            Ok(None)
+        }
+    }
 }
 
 /// The end, and how many messages the supplier sent.
@@ -252,17 +306,14 @@ fn run(
     consumer: &mut Consumer,
     node: &mut Told,
     alters: Alteration,
-) -> Result<(SessionEnd, u64), CaseFault> {
+) -> Result<Ended, CaseFault> {
     let mut reply = bound(alloc, supplier)?;
     for messages in 1..u64::MAX {
         if messages == alters.message {
-            reply = alter(alloc, alters.altered, reply);
+            alter(alloc, alters.altered, &mut reply);
         }
-        match or_memory(supplier.hear(alloc, supply, &reply))? {
-            SupplyStep::Ended(end) => return Ok((end, messages)),
-            SupplyStep::Send(bytes) => {
-                reply = answered(alloc, consumer, node, bytes.as_slice())?;
-            }
+        if let Some(end) = step(alloc, supplier, supply, consumer, node, &mut reply)? {
+            return Ok(Ended { end, messages });
         }
     }
     Err(CaseFault::Argument)

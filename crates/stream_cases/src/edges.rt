@@ -72,13 +72,25 @@ where
 fn door(alloc: Global, fields: &mut Fields<'_>, told: &mut String) -> Result<(), CaseFault> {
     let calls = fields.number()?;
     let failing = next_numbers(alloc, fields)?;
-    let mut door = MemDoor::new(next_streams(alloc, fields)?, failing.as_slice());
+    let streams = next_streams(alloc, fields)?;
+    let mut door = MemDoor::new(streams, failing.as_slice());
+    tell_calls(&mut door, calls, told)?;
+    tell_count(told, "nones", door.nones())
+}
+
+fn tell_calls<A: Acceptor>(door: &mut A, calls: u64, told: &mut String) -> Result<(), CaseFault>
+where
+    A::S: Drop,
+{
     for _ in 0..calls {
-        tell_accepted(&mut door, told)?;
+        tell_accepted(door, told)?;
         told.push_str(" ")?;
     }
-    let nones = door.nones();
-    write!(told, "nones {nones}")?;
+    Ok(())
+}
+
+fn tell_count(told: &mut String, name: &str, count: u64) -> Result<(), CaseFault> {
+    write!(told, "{name} {count}")?;
     Ok(())
 }
 
@@ -97,13 +109,20 @@ where
 
 fn dialer(alloc: Global, fields: &mut Fields<'_>, told: &mut String) -> Result<(), CaseFault> {
     let calls = u16::try_from(fields.number()?).unwrap_or(0);
-    let mut dialer = MemDialer::new(next_streams(alloc, fields)?);
+    let streams = next_streams(alloc, fields)?;
+    let mut dialer = MemDialer::new(streams);
+    tell_dials(&mut dialer, calls, told)?;
+    tell_count(told, "calls", dialer.calls())
+}
+
+fn tell_dials<D: Dialer>(dialer: &mut D, calls: u16, told: &mut String) -> Result<(), CaseFault>
+where
+    D::S: Drop,
+{
     for rid in 1..=calls {
-        tell_dialled(&mut dialer, rid, told)?;
+        tell_dialled(dialer, rid, told)?;
         told.push_str(" ")?;
     }
-    let calls = dialer.calls();
-    write!(told, "calls {calls}")?;
     Ok(())
 }
 

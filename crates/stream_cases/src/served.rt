@@ -64,10 +64,14 @@ pub fn answer<R: Wait>(
 pub fn new_machine(alloc: Global) -> Result<NodeMachine<NodeState, SetClock>, CaseFault>
     ensures { IfOk result (λ machine. machine.conn.is_closed ≡ false) }
 {
+    let node = new_node(alloc)?;
     let conn = or_memory(Conn::new(alloc))?;
-    let suffix = example_suffix(alloc)?;
-    let node = or_memory(NodeState::new(alloc, 1, &suffix))?;
     Ok(NodeMachine::new(conn, node, SetClock::new(100)))
+}
+
+fn new_node(alloc: Global) -> Result<NodeState, CaseFault> {
+    let suffix = example_suffix(alloc)?;
+    or_memory(NodeState::new(alloc, 1, &suffix))
 }
 
 /// Serves a stream with these calls.
@@ -80,13 +84,23 @@ fn serve<'a, R: Wait>(
 ) -> Result<Served<'a>, CaseFault>
     requires { 0 < calls.most }
 {
-    let mut machine = new_machine(alloc)?;
     let source = MemSource::in_pieces(sent, calls.reads, calls.most);
     let sink = MemSink::keeping(alloc, calls.writes, calls.kept);
     let mut stream = MemStream::new(source, sink);
-    let end = or_memory(serve_stream(rt, alloc, &mut machine, &mut stream, tally))?;
+    let end = serve_anew(rt, alloc, &mut stream, tally)?;
     let (source, sink) = stream.into_parts();
     Ok(Served { end, source, sink })
+}
+
+/// Serves a stream by a new machine.
+fn serve_anew<'a, R: Wait>(
+    rt: &R,
+    alloc: Global,
+    stream: &mut MemStream<MemSource<'a>, MemSink<'a>>,
+    tally: &mut Streams<'a>,
+) -> Result<StreamEnd, CaseFault> {
+    let mut machine = new_machine(alloc)?;
+    or_memory(serve_stream(rt, alloc, &mut machine, stream, tally))
 }
 
 /// Tells the end and what was written.
@@ -130,16 +144,34 @@ fn once<R: Wait>(
     let most = next_most(fields)?;
     let reads = next_numbers(alloc, fields)?;
     let writes = next_numbers(alloc, fields)?;
+    let kept = fields.number()? as usize;
+    let (reads, writes) = (reads.as_slice(), writes.as_slice());
     let calls = Calls {
         most,
-        reads: reads.as_slice(),
-        writes: writes.as_slice(),
-        kept: fields.number()? as usize,
+        reads,
+        writes,
+        kept,
     };
+    tell_served(rt, alloc, sent, calls, told)
+}
+
+fn tell_served<R: Wait>(
+    rt: &R,
+    alloc: Global,
+    sent: &[u8],
+    calls: Calls<'_>,
+    told: &mut String,
+) -> Result<(), CaseFault>
+    requires { 0 < calls.most }
+{
     let mut tally = Tally::new();
     let served = serve(rt, alloc, sent, calls, &mut tally)?;
-    tell_end(told, &served)?;
-    tell_rest(told, &served, tally.count())
+    tell_all(told, &served, tally.count())
+}
+
+fn tell_all(told: &mut String, served: &Served<'_>, count: u64) -> Result<(), CaseFault> {
+    tell_end(told, served)?;
+    tell_rest(told, served, count)
 }
 
 /// Tells what was not read, the faults of both sides, and how many streams were served.
@@ -180,14 +212,30 @@ fn pieces<R: Wait>(
 ) -> Result<(), CaseFault> {
     tell_in_pieces(rt, alloc, sent, 1, told)?;
     for size in 2..=most {
-        let mut other = String::new(alloc);
-        tell_in_pieces(rt, alloc, sent, size as usize, &mut other)?;
-        if other.as_str() != told.as_str() {
-            write!(told, ", but {other} in pieces of {size}")?;
-            return Ok(());
+        if !is_same_in_pieces(rt, alloc, sent, size, told)? {
+            break;
         }
     }
     Ok(())
+}
+
+/// Whether the same is told in pieces of at most so many bytes; else tells what is.
+fn is_same_in_pieces<R: Wait>(
+    rt: &R,
+    alloc: Global,
+    sent: &[u8],
+    size: u64,
+    told: &mut String,
+) -> Result<bool, CaseFault>
+    requires { 0 < size }
+{
+    let mut other = String::new(alloc);
+    tell_in_pieces(rt, alloc, sent, size as usize, &mut other)?;
+    let is_same = other.as_str() == told.as_str();
+    if !is_same {
+        write!(told, ", but {other} in pieces of {size}")?;
+    }
+    Ok(is_same)
 }
 
 /// Tells what came of the stream where the call with this number fails, and whether there is none.
@@ -227,6 +275,22 @@ fn failing(side: Side, number: &u64, most: usize, kept: usize) -> Calls<'_>
     }
 }
 
+/// Serves the stream with these calls, of which the one with this number fails, and tells what came of it, and
+/// whether there is none.
+fn serve_failing<R: Wait>(
+    rt: &R,
+    alloc: Global,
+    sent: &[u8],
+    calls: Calls<'_>,
+    number: u64,
+    told: &mut String,
+) -> Result<bool, CaseFault>
+    requires { 0 < calls.most }
+{
+    let served = serve(rt, alloc, sent, calls, &mut Tally::new())?;
+    tell_failing(told, number, &served)
+}
+
 /// Serves the stream with the first call of a side failing, with the second, and so on.
 fn each_failing<R: Wait>(
     rt: &R,
@@ -243,8 +307,7 @@ fn each_failing<R: Wait>(
     };
     for number in 1..u64::MAX {
         let calls = failing(side, &number, most, kept);
-        let served = serve(rt, alloc, sent, calls, &mut Tally::new())?;
-        if tell_failing(told, number, &served)? {
+        if serve_failing(rt, alloc, sent, calls, number, told)? {
             break;
         }
     }
@@ -278,13 +341,37 @@ fn joined<R: Wait>(
     fields: &mut Fields<'_>,
     told: &mut String,
 ) -> Result<(), CaseFault> {
+    let tally = counted(rt, alloc, sent, fields.number()?)?;
+    let other = counted(rt, alloc, sent, fields.number()?)?;
+    tell_joined(told, tally, other)
+}
+
+/// The tally of the stream that is served so many times.
+fn counted<'a, R: Wait>(
+    rt: &R,
+    alloc: Global,
+    sent: &'a [u8],
+    times: u64,
+) -> Result<Streams<'a>, CaseFault> {
     let mut tally = Tally::new();
-    serve_often(rt, alloc, sent, fields.number()?, &mut tally)?;
-    let mut other = Tally::new();
-    serve_often(rt, alloc, sent, fields.number()?, &mut other)?;
+    serve_often(rt, alloc, sent, times, &mut tally)?;
+    Ok(tally)
+}
+
+fn tell_joined<'a>(
+    told: &mut String,
+    tally: Streams<'a>,
+    other: Streams<'a>,
+) -> Result<(), CaseFault> {
     let (first, second) = (tally.count(), other.count());
-    tally.join(other);
-    let all = tally.count();
+    let all = join(tally, other);
     write!(told, "{first} and {second} are {all}")?;
     Ok(())
+}
+
+/// How many streams both have counted.
+fn join<'a>(tally: Streams<'a>, other: Streams<'a>) -> u64 {
+    let mut tally = tally;
+    tally.join(other);
+    tally.count()
 }
