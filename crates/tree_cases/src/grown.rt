@@ -1,93 +1,50 @@
-//! Trees that take changes one after the other.
+//! What comes of changes in an order: a tree that takes them one after the other, and the plain view.
 
+use crate::told;
 use case_lines::{CaseFault, or_memory};
+use case_views::Taken;
+use plain_view::PlainView;
 use repl_data::{Change, Suffix, check};
 use std::alloc::Global;
 use urp_tree::UrpTree;
 
-pub fn new_tree(alloc: Global, suffix: &Suffix) -> Result<UrpTree, CaseFault> {
-    or_memory(UrpTree::new(alloc, suffix))
+/// All that the plain view of the changes at these places answers.
+pub fn plain(
+    alloc: Global,
+    suffix: &Suffix,
+    taken: &Taken,
+    places: &str,
+) -> Result<String, CaseFault> {
+    let changes = taken.picked(alloc, places)?;
+    let view = or_memory(PlainView::of(alloc, suffix, changes.as_slice()))?;
+    told::all(alloc, &view)
 }
 
-/// The tree takes a change, if what this needs is there. Answers whether it did.
-pub fn take(tree: &mut UrpTree, alloc: Global, change: &Change) -> Result<bool, CaseFault> {
+/// The tree that takes the changes at these places, in this order.
+pub fn tree(
+    alloc: Global,
+    suffix: &Suffix,
+    taken: &Taken,
+    places: &str,
+) -> Result<UrpTree, CaseFault> {
+    let changes = taken.picked(alloc, places)?;
+    let mut tree = or_memory(UrpTree::new(alloc, suffix))?;
+    for change in changes.as_slice() {
+        take(alloc, &mut tree, change)?;
+    }
+    Ok(tree)
+}
+
+/// The tree takes a change, of which what it needs has to be there. Answers how many entries it changes.
+pub fn take(alloc: Global, tree: &mut UrpTree, change: &Change) -> Result<usize, CaseFault> {
     if check(change).is_err() {
         return Err(CaseFault::Argument);
     }
     if !tree.can_take(change) {
-        return Ok(false);
+        return Err(CaseFault::Argument);
     }
     let plan = or_memory(tree.plan(alloc, change))?;
+    let count = plan.changed().len();
     tree.install(plan);
-    Ok(true)
-}
-
-/// The tree takes these changes, one after the other. What each needs has to be there.
-pub fn take_all(tree: &mut UrpTree, alloc: Global, changes: &[Change]) -> Result<(), CaseFault> {
-    for change in changes {
-        if !take(tree, alloc, change)? {
-            return Err(CaseFault::Argument);
-        }
-    }
-    Ok(())
-}
-
-/// The tree after the changes at these places, each as soon as what it needs is there.
-pub fn grown(
-    alloc: Global,
-    suffix: &Suffix,
-    changes: &[Change],
-    order: &[usize],
-) -> Result<UrpTree, CaseFault> {
-    let mut tree = new_tree(alloc, suffix)?;
-    grow(&mut tree, alloc, changes, order)?;
-    Ok(tree)
-}
-
-fn grow(
-    tree: &mut UrpTree,
-    alloc: Global,
-    changes: &[Change],
-    order: &[usize],
-) -> Result<(), CaseFault> {
-    let mut left = Vec::from_slice(alloc, order)?;
-    for _ in order {
-        if left.is_empty() {
-            break;
-        }
-        left = pass(tree, alloc, changes, left.as_slice())?;
-    }
-    if left.is_empty() {
-        return Ok(());
-    }
-    Err(CaseFault::Argument)
-}
-
-/// Takes those changes that it can, and answers the places of the others.
-fn pass(
-    tree: &mut UrpTree,
-    alloc: Global,
-    changes: &[Change],
-    order: &[usize],
-) -> Result<Vec<usize>, CaseFault> {
-    let mut left = Vec::new(alloc);
-    for place in order {
-        if !take_at(tree, alloc, changes, *place)? {
-            left.push(*place)?;
-        }
-    }
-    Ok(left)
-}
-
-/// The tree takes the change at this place, if what this needs is there. Answers whether it did.
-pub fn take_at(
-    tree: &mut UrpTree,
-    alloc: Global,
-    changes: &[Change],
-    place: usize,
-) -> Result<bool, CaseFault> {
-    match changes.get(place) {
-        Some(change) => take(tree, alloc, change),
-        None => Err(CaseFault::Argument),
-    }
+    Ok(count)
 }

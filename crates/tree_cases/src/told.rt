@@ -1,153 +1,107 @@
-//! All that a view answers, as text.
+//! What a view answers, as text.
 
-use case_changes::tell_uid;
-use case_lines::{CaseFault, or_memory};
-use case_views::{tell_entry, tell_optional_uid};
-use repl_data::{ShownEntry, Standing, Uid, View};
+use case_changes::next_uid;
+use case_lines::{CaseFault, Fields, or_memory};
+use case_views::tell_entry;
+use repl_data::{ShownEntry, Uid, View};
 use std::alloc::Global;
 use std::fmt::Write;
 
-/// What the view shows: the entries, parents first and siblings in order of the names that they show, and then the
-/// tombstones.
-pub fn all_told<V: View>(alloc: Global, view: &V) -> Result<String, CaseFault> {
+/// All that the view answers of each present entry, in the order of a listing, and then of each tombstone.
+pub fn all<V: View>(alloc: Global, view: &V) -> Result<String, CaseFault> {
+    let mut ids = present(alloc, view)?;
+    ids.extend_from_slice(or_memory(view.tombstones(alloc))?.as_slice())?;
     let mut told = String::new(alloc);
-    tell_all(alloc, view, &mut told)?;
+    for id in ids.as_slice() {
+        tell_one(alloc, view, *id, &mut told)?;
+    }
     Ok(told)
 }
 
-/// Whether this is all that the view answers.
-pub fn answers<V: View>(alloc: Global, view: &V, expected: &str) -> Result<bool, CaseFault> {
-    let told = all_told(alloc, view)?;
-    Ok(told.as_str() == expected)
-}
-
-fn tell_all<V: View>(alloc: Global, view: &V, told: &mut String) -> Result<(), CaseFault> {
-    tell_present(alloc, view, told)?;
-    tell_gone(alloc, view, told)
-}
-
-fn tell_present<V: View>(alloc: Global, view: &V, told: &mut String) -> Result<(), CaseFault> {
+/// The present entries, parents first and siblings as the view lists them.
+fn present<V: View>(alloc: Global, view: &V) -> Result<Vec<Uid>, CaseFault> {
+    let mut ids = Vec::new(alloc);
     let mut next = Vec::new(alloc);
     next.push(view.root())?;
-    tell_next(alloc, view, &mut next, told)
-}
-
-/// Those on the list and below them, the last one first.
-fn tell_next<V: View>(
-    alloc: Global,
-    view: &V,
-    next: &mut Vec<Uid>,
-    told: &mut String,
-) -> Result<(), CaseFault> {
     for _ in 0..u64::MAX {
         let Some(id) = next.pop() else {
             break;
         };
-        tell_one(alloc, view, id, told)?;
-        push_children(alloc, view, id, next)?;
+        ids.push(id)?;
+        push_children(alloc, view, id, &mut next)?;
     }
-    Ok(())
+    Ok(ids)
 }
 
-/// Appends the children to the list, the first one last.
-pub fn push_children<V: View>(
+/// Appends the children, the first one last.
+fn push_children<V: View>(
     alloc: Global,
     view: &V,
     id: Uid,
     next: &mut Vec<Uid>,
 ) -> Result<(), CaseFault> {
     let children = or_memory(view.children(alloc, id))?;
-    push_from_last(children.as_slice(), next)
-}
-
-fn push_from_last(ids: &[Uid], next: &mut Vec<Uid>) -> Result<(), CaseFault> {
-    for id in ids.iter().rev() {
-        next.push(*id)?;
+    for child in children.as_slice().iter().rev() {
+        next.push(*child)?;
     }
     Ok(())
 }
 
-/// An entry, its parent, whether it is glue, whether it lost its name, how many attributes it lends, and whether its
-/// name leads to it.
+/// An entry as it shows, its parent, its name and who has that name, how it stands, and the values that it lends.
 fn tell_one<V: View>(alloc: Global, view: &V, id: Uid, told: &mut String) -> Result<(), CaseFault> {
-    tell_shown(alloc, view, id, told)?;
-    told.push_str(" below ")?;
-    tell_optional_uid(told, view.parent(id))?;
-    tell_standing(view.standing(id), told)?;
-    tell_lent(view, id, told)?;
-    tell_named(view, id, told)?;
-    told.push_str("\n")?;
+    tell_shown(&shown(alloc, view, id)?, told)?;
+    let (parent, name, holder) = (view.parent(id), view.name(id), holder(view, id));
+    let (standing, own) = (view.standing(id), view.own(id));
+    writeln!(told, " {parent:?} {name:?} {holder:?} {standing:?} {own:?}")?;
     Ok(())
 }
 
-fn tell_shown<V: View>(
-    alloc: Global,
-    view: &V,
-    id: Uid,
-    told: &mut String,
-) -> Result<(), CaseFault> {
-    let entry = or_memory(view.entry(alloc, id))?;
-    tell_found(&entry, told)
+/// A present entry or a tombstone, as it shows.
+fn shown<V: View>(alloc: Global, view: &V, id: Uid) -> Result<Option<ShownEntry>, CaseFault> {
+    match or_memory(view.entry(alloc, id))? {
+        Some(entry) => Ok(Some(entry)),
+        None => or_memory(view.tombstone(alloc, id)),
+    }
 }
 
-fn tell_found(entry: &Option<ShownEntry>, told: &mut String) -> Result<(), CaseFault> {
+fn tell_shown(entry: &Option<ShownEntry>, told: &mut String) -> Result<(), CaseFault> {
     match entry {
         Some(entry) => tell_entry(told, entry),
-        None => Err(CaseFault::Argument),
+        None => {
+            told.push_str("none")?;
+            Ok(())
+        }
     }
 }
 
-fn tell_standing(standing: Option<Standing>, told: &mut String) -> Result<(), CaseFault> {
-    if let Some(standing) = standing {
-        let (glue, lost) = (standing.glue, standing.lost);
-        write!(told, " {glue} {lost}")?;
-    }
-    Ok(())
+/// Who shows the name of this entry.
+fn holder<V: View>(view: &V, id: Uid) -> Option<Uid> {
+    let parent = view.parent(id)?;
+    view.child(parent, view.name(id)?)
 }
 
-fn tell_lent<V: View>(view: &V, id: Uid, told: &mut String) -> Result<(), CaseFault> {
-    if let Some(own) = view.own(id) {
-        let count = own.len();
-        write!(told, " {count}")?;
-    }
-    Ok(())
-}
-
-fn tell_named<V: View>(view: &V, id: Uid, told: &mut String) -> Result<(), CaseFault> {
-    if let Some(name) = view.name(id) {
-        told.push_str(" named ")?;
-        tell_optional_uid(told, view.child(view.parent(id).unwrap_or(id), name))?;
-    }
-    Ok(())
-}
-
-fn tell_gone<V: View>(alloc: Global, view: &V, told: &mut String) -> Result<(), CaseFault> {
-    let gone = or_memory(view.tombstones(alloc))?;
-    tell_each_gone(alloc, view, gone.as_slice(), told)
-}
-
-fn tell_each_gone<V: View>(
+/// The present entry or the tombstone of the next id, as it shows, or `none`.
+pub fn entry<V: View>(
     alloc: Global,
     view: &V,
-    gone: &[Uid],
+    fields: &mut Fields<'_>,
     told: &mut String,
 ) -> Result<(), CaseFault> {
-    for id in gone {
-        told.push_str("gone ")?;
-        tell_uid(told, *id)?;
-        told.push_str(" ")?;
-        tell_tombstone(alloc, view, *id, told)?;
-        told.push_str("\n")?;
-    }
-    Ok(())
+    let id = next_uid(fields)?;
+    tell_shown(&shown(alloc, view, id)?, told)
 }
 
-fn tell_tombstone<V: View>(
-    alloc: Global,
-    view: &V,
-    id: Uid,
-    told: &mut String,
-) -> Result<(), CaseFault> {
-    let entry = or_memory(view.tombstone(alloc, id))?;
-    tell_found(&entry, told)
+/// How many entries are present, how many of these are glue or lost their names, and how many are tombstones.
+pub fn counts<V: View>(alloc: Global, view: &V, told: &mut String) -> Result<(), CaseFault> {
+    let ids = present(alloc, view)?;
+    let (mut glue, mut lost) = (0u64, 0u64);
+    for id in ids.as_slice() {
+        if let Some(standing) = view.standing(*id) {
+            glue = glue.saturating_add(standing.glue as u64);
+            lost = lost.saturating_add(standing.lost as u64);
+        }
+    }
+    let (present, gone) = (ids.len(), or_memory(view.tombstones(alloc))?.len());
+    write!(told, "{present} present, {glue} glue, {lost} lost, {gone} gone")?;
+    Ok(())
 }
