@@ -102,6 +102,9 @@ pub fn counts<V: View>(alloc: Global, view: &V, told: &mut String) -> Result<(),
         }
     }
     let (present, gone) = (ids.len(), or_memory(view.tombstones(alloc))?.len());
-    write!(told, "{present} present, {glue} glue, {lost} lost, {gone} gone")?;
+    write!(
+        told,
+        "{present} present, {glue} glue, {lost} lost, {gone} gone"
+    )?;
     Ok(())
 }
