@@ -1,11 +1,11 @@
 #!/bin/sh
-# Prints how long a search over the whole subtree takes, in a node of 10,000 and one of 100,000 people with ten values each:
-# an equality, a substring, a presence, and an `and` of three, each of which holds of one person. Of a hundred runs the
-# shortest counts: searches a second, candidates a second, and microseconds a candidate. An equality is to take 0.2
-# microseconds a candidate.
+# Prints how long a search over the whole subtree takes, in a node of 10,000 and one of 100,000 people with ten values
+# each: an equality, a substring, a presence, and an `and` of three, each of which holds of one person. Of a hundred runs
+# the shortest counts: searches a second, candidates a second, and microseconds a candidate. An equality is to take 0.2
+# microseconds a candidate. Arguments are other numbers of people.
 #
-# Candidates are the people and the suffix entry. What a search costs besides them (its base is looked up, its filter is read, its
-# one answer is made) is in these times.
+# Candidates are the people and the suffix entry. What a search costs besides them (its base is looked up, its filter is
+# read, its one answer is made) is in these times.
 set -eu
 
 here=$(cd "$(dirname "$0")/.." && pwd)
@@ -298,7 +298,8 @@ END
 (cd "$made/crates/search_times" && rt run -- 10 > /dev/null)
 
 printf '%8s  %-10s %12s %14s %16s\n' people filter 'searches/s' 'candidates/s' 'us a candidate'
-for people in 10000 100000; do
+[ $# -gt 0 ] || set -- 10000 100000
+for people; do
     "$made/crates/search_times/out/search_times" "$people" | awk -v people="$people" \
         '{ printf "%8d  %-10s %12.0f %14.0f %16.3f\n", people, $1, 1 / $2, (people + 1) / $2, $2 / (people + 1) * 1000000 }'
 done

@@ -1,11 +1,11 @@
 #!/bin/sh
-# Prints what changes of a tree of 1,000 to 1,000,000 entries take, ten below each: the microseconds of an add while the tree
-# grows, of a modify, a rename and a delete of any entry, and of an add or a delete below ten deleted ancestors, which all
-# come and go with it; and the bytes of an entry. Arguments are other numbers of entries.
+# Prints what changes of a tree of 1,000 to 1,000,000 entries take, ten below each: the microseconds of an add while the
+# tree grows, of a modify, a rename and a delete of any entry, and of an add or a delete below ten deleted ancestors,
+# which all come and go with it; and the bytes of an entry. Arguments are other numbers of entries.
 #
-# An entry is a person with ten values. Its bytes are the greatest memory of a process that made the tree, less that of one
-# that made a tree of one entry, divided by the entries: with the values, their stamps, what shows of them, the names by which
-# children are found, and what the allocator needs for them.
+# An entry is a person with ten values. Its bytes are the greatest memory of a process that made the tree, less that of
+# one that made a tree of one entry, divided by the entries: with the values, their stamps, what shows of them, the names
+# by which children are found, and what the allocator needs for them.
 set -eu
 
 here=$(cd "$(dirname "$0")/.." && pwd)

@@ -7,9 +7,8 @@ use std::alloc::Global;
 use std::fmt::Write;
 use urp_tree::UrpTree;
 
-/// The tree takes so many changes, which the next words write: in the first word but one, in the word after it and so on,
-/// a number with `+` behind it is counted up from change to change, and one with `-` behind it is counted down. Tells
-/// how many entries one of them changed at most.
+/// The tree takes so many changes, which the next words write: in these a number with `+` behind it is counted up from
+/// change to change, and one with `-` behind it is counted down. Tells how many entries one of them changed at most.
 pub fn take_each(
     alloc: Global,
     tree: &mut UrpTree,
