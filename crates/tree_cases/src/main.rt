@@ -44,7 +44,8 @@ impl Trees {
             }
             let places = fields.word()?;
             self.tree = grown::tree(alloc, &self.suffix, &self.taken, places)?;
-            if told::all(alloc, &self.tree)?.as_str() == self.plain.as_str() {
+            let answers = told::all(alloc, &self.tree)?;
+            if answers.as_str() == self.plain.as_str() {
                 alike = alike.saturating_add(1);
             } else {
                 write!(told, "not {places}, ")?;

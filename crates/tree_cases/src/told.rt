@@ -10,7 +10,8 @@ use std::fmt::Write;
 /// All that the view answers of each present entry, in the order of a listing, and then of each tombstone.
 pub fn all<V: View>(alloc: Global, view: &V) -> Result<String, CaseFault> {
     let mut ids = present(alloc, view)?;
-    ids.extend_from_slice(or_memory(view.tombstones(alloc))?.as_slice())?;
+    let gone = or_memory(view.tombstones(alloc))?;
+    ids.extend_from_slice(gone.as_slice())?;
     let mut told = String::new(alloc);
     for id in ids.as_slice() {
         tell_one(alloc, view, *id, &mut told)?;
@@ -49,7 +50,8 @@ fn push_children<V: View>(
 
 /// An entry as it shows, its parent, its name and who has that name, how it stands, and the values that it lends.
 fn tell_one<V: View>(alloc: Global, view: &V, id: Uid, told: &mut String) -> Result<(), CaseFault> {
-    tell_shown(&shown(alloc, view, id)?, told)?;
+    let entry = shown(alloc, view, id)?;
+    tell_shown(&entry, told)?;
     let (parent, name, holder) = (view.parent(id), view.name(id), holder(view, id));
     let (standing, own) = (view.standing(id), view.own(id));
     writeln!(told, " {parent:?} {name:?} {holder:?} {standing:?} {own:?}")?;
@@ -87,8 +89,8 @@ pub fn entry<V: View>(
     fields: &mut Fields<'_>,
     told: &mut String,
 ) -> Result<(), CaseFault> {
-    let id = next_uid(fields)?;
-    tell_shown(&shown(alloc, view, id)?, told)
+    let entry = shown(alloc, view, next_uid(fields)?)?;
+    tell_shown(&entry, told)
 }
 
 /// How many entries are present, how many of these are glue or lost their names, and how many are tombstones.
