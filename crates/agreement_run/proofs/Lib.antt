@@ -1,3 +1,3 @@
-pub mod Going
-pub mod Ending
 pub mod Pieces
+pub mod Going
+pub mod Turned

@@ -15,22 +15,13 @@ use Rattle.replica_session.specs.declared.supplier.Awaited.TheVariants as awaite
 use Rattle.replica_session.specs.declared.supplier.Supplier.{Supplier}
 use Rattle.replica_session.specs.Calls.{Supplying}
 use Rattle.replica_session.specs.Messages.{bind_bytes}
-use Rattle.replica_session.specs.Supplier.{heard, HearsSo, Asks}
+use Rattle.replica_session.specs.Supplier.{Asks}
 use Rattle.replica_session.specs.Laws.{Talks}
 use Rattle.agreement_run.specs.Front.{BeginsWith}
+use Rattle.agreement_run.specs.Sides.{Sides}
+use Rattle.agreement_run.specs.Turn.{Hears}
 use Rattle.agreement_run.specs.declared.end.RunEnd.{RunEnd}
 use Rattle.agreement_run.specs.declared.end.RunEnd.TheVariants as run
-
--- a stream as a session knows it: what is left to be read and what was written, where that is told, and the counts of
--- faults of its two sides
-pub record Sides : Type 0 where
-  pub left : Option (List ℕ)
-  pub contents : Option (List ℕ)
-  pub read_faults : ℕ
-  pub write_faults : ℕ
-
-abbrev pub sides : Option (List ℕ) → Option (List ℕ) → ℕ → ℕ → Sides
-sides left contents read_faults write_faults = record { left = left; contents = contents; read_faults = read_faults; write_faults = write_faults }
 
 -- the supplier with this replica id and this suffix, before its session
 abbrev pub new_supplier : ℕ → List ℕ → Supplier
@@ -58,9 +49,8 @@ pub record Goes {S : Type 0} (c : Supplying S) (start : Supplier) (supply : S) (
 -- HOW A SESSION OVER A STREAM ENDS
 pub data Runs {S : Type 0} (c : Supplying S) (start : Supplier) (supply : S) (old : Sides) : Result RunEnd NoMemory → S → Sides → Type 0 where
   -- a reply ended it, as the supplier heard it
-  heard_so : (a b : Supplier) (x y : S) (unheard rest : List ℕ) (r : Reply) (end : SessionEnd) (new : Sides)
-      → Goes c start supply old a x unheard new.left new.contents → BeginsWith unheard r rest
-      → HearsSo c a x (heard a.awaited a.sent r) (step.Ended end) b y
+  heard_so : (a b : Supplier) (x y : S) (unheard rest : List ℕ) (end : SessionEnd) (new : Sides)
+      → Goes c start supply old a x unheard new.left new.contents → Hears c a x unheard (step.Ended end) b y rest
       → Runs c start supply old (Ok (run.Ended end)) y new
   -- the bytes behind the last reply are no reply
   no_reply : (a : Supplier) (x : S) (unheard : List ℕ) (place : ℕ) (why : NotLdapWhy) (new : Sides)
@@ -76,9 +66,8 @@ pub data Runs {S : Type 0} (c : Supplying S) (start : Supplier) (supply : S) (ol
       → AppendsFront old.contents new.contents bind_bytes → new.left ≡ old.left → Rose old.write_faults new.write_faults
       → Runs c start supply old (Ok run.Lost) supply new
   -- a front of the next message was written, and the write failed
-  unwritten : (a b : Supplier) (x y : S) (unheard rest message : List ℕ) (r : Reply) (contents : Option (List ℕ)) (new : Sides)
-      → Goes c start supply old a x unheard new.left contents → BeginsWith unheard r rest
-      → HearsSo c a x (heard a.awaited a.sent r) (step.Send message) b y
+  unwritten : (a b : Supplier) (x y : S) (unheard rest message : List ℕ) (contents : Option (List ℕ)) (new : Sides)
+      → Goes c start supply old a x unheard new.left contents → Hears c a x unheard (step.Send message) b y rest
       → AppendsFront contents new.contents message → Rose old.write_faults new.write_faults
       → Runs c start supply old (Ok run.Lost) y new
   -- memory ran out before the bind

@@ -8,6 +8,7 @@ mod inbox;
 mod next;
 mod session;
 mod sides;
+mod turn;
 
 pub use end::RunEnd;
 pub use replica_session::{SessionEnd, Supply};

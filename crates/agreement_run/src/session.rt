@@ -1,15 +1,16 @@
 //! One session over one stream.
 
 ghost use Rattle.std.specs.Prelude.{◌≡◌, []};
-ghost use Rattle.agreement_run.specs.Running.{Runs, sides, new_supplier};
+ghost use Rattle.agreement_run.specs.Sides.{sides};
+ghost use Rattle.agreement_run.specs.Running.{Runs, new_supplier};
 
 use crate::end::RunEnd;
 use crate::inbox::Inbox;
-use crate::next::{Next, next_reply};
 use crate::sides::write_side;
+use crate::turn::{Turn, take_turn};
 use io_edge::Stream;
 use repl_data::{NoMemory, Suffix};
-use replica_session::{SessionEnd, Supplier, Supply, SupplyStep};
+use replica_session::{SessionEnd, Supplier, Supply};
 use std::alloc::Global;
 use std::sync::Wait;
 
@@ -45,7 +46,7 @@ pub fn run_session<R: Wait, S: Supply, T: Stream>(
     run(rt, alloc, &mut supplier, supply, stream, &mut inbox)
 }
 
-/// Runs the session of this supplier, with this inbox.
+/// Writes the bind of this supplier, and takes turns until one of them ends the session.
 fn run<R: Wait, S: Supply, T: Stream>(
     rt: &R,
     alloc: Global,
@@ -64,24 +65,16 @@ fn run<R: Wait, S: Supply, T: Stream>(
         return Ok(RunEnd::Lost);
     };
     for _ in rt.forever() {
-        let Ok(next) = next_reply(rt, alloc, stream, inbox) else {
+        let Ok(turn) = take_turn(rt, alloc, supplier, supply, stream, inbox) else {
             return Err(NoMemory);
         };
-        let reply = match next {
-            Next::Heard(reply) => reply,
-            Next::NoReply => return Ok(RunEnd::Ended(SessionEnd::Strange)),
-            Next::Unanswered => return Ok(RunEnd::Lost),
-        };
-        let Ok(step) = supplier.hear(alloc, supply, &reply) else {
-            return Err(NoMemory);
-        };
-        let message = match step {
-            SupplyStep::Ended(end) => return Ok(RunEnd::Ended(end)),
-            SupplyStep::Send(message) => message,
-        };
-        let Ok(()) = write_side(stream, message.as_slice()) else {
-            return Ok(RunEnd::Lost);
-        };
+        match turn {
+            Turn::Sent => {}
+            Turn::Ended(end) => return Ok(RunEnd::Ended(end)),
+            Turn::NoReply => return Ok(RunEnd::Ended(SessionEnd::Strange)),
+            Turn::Unanswered => return Ok(RunEnd::Lost),
+            Turn::Unwritten => return Ok(RunEnd::Lost),
+        }
     }
     unreachable!()
 }

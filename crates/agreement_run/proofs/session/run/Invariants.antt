@@ -1,5 +1,6 @@
 use Rattle.std.proofs.Common.{◌≡◌, ◌≤◌}
-use Rattle.agreement_run.specs.Running.{sides, Goes}
+use Rattle.agreement_run.specs.Sides.{sides}
+use Rattle.agreement_run.specs.Running.{Goes}
 use Rattle.agreement_run.proofs.session.run.Given as goal
 
 abbrev pub invariant-loop : goal.invariant-loop
