@@ -1,6 +1,5 @@
 -- One turn of a session over a stream, and turns one behind the other.
 use Rattle.std.proofs.Common.{◌≡◌, ◌≤◌, ℕ, List, Option, Result, Ok, Err, inl, inr, refl, sym, subst, arith}
-use Rattle.std.specs.Io.KnownBytes.{Appends}
 use Rattle.repl_data.specs.declared.items.NoMemory.{NoMemory}
 use Rattle.io_edge.specs.Causes.{Rose}
 use Rattle.io_edge.specs.Edge.{AppendsFront}
@@ -16,7 +15,7 @@ use Rattle.agreement_run.specs.declared.next.Next.TheVariants as next
 use Rattle.agreement_run.specs.declared.turn.Turn.{Turn}
 use Rattle.agreement_run.specs.declared.turn.Turn.TheVariants as turn
 use Rattle.agreement_run.specs.Front.{BeginsWith}
-use Rattle.agreement_run.specs.Sides.{Sides}
+use Rattle.agreement_run.specs.Sides.{Sides, sides}
 use Rattle.agreement_run.specs.Waiting.{Comes, Meets}
 use Rattle.agreement_run.specs.Turn.{AnswersSo, GoesSo, Turned}
 use Rattle.agreement_run.specs.Running.{Goes, Runs}
@@ -26,10 +25,10 @@ use Rattle.agreement_run.proofs.Pieces.{rose_since, since}
 -- ---- one turn
 
 -- memory ran out before a reply was heard
-pub turned_short : {S : Type 0} (c : Supplying S) (a : Supplier) (x : S) (held rest : List ℕ) (old new : Sides) (failed short : NoMemory)
-    → Meets held old.left old.read_faults (Err failed) rest new.left new.read_faults → old.read_faults ≤ new.read_faults
-    → new.contents ≡ old.contents → new.write_faults ≡ old.write_faults → Turned c a x held old (Err short) a x rest new
-turned_short c a x held rest old new failed short m later same calm = record {
+pub turned_short : {S : Type 0} (c : Supplying S) (a : Supplier) (x : S) (held rest : List ℕ) (left left_now contents contents_now : Option (List ℕ)) (reads reads_now writes writes_now : ℕ) (failed short : NoMemory)
+    → Meets held left reads (Err failed) rest left_now reads_now → reads ≤ reads_now → contents_now ≡ contents → writes_now ≡ writes
+    → Turned c a x held (sides left contents reads writes) (Err short) a x rest (sides left_now contents_now reads_now writes_now)
+turned_short c a x held rest left left_now contents contents_now reads reads_now writes writes_now failed short m later same calm = record {
   all = m.all;
   comes = m.comes;
   goes = (inl refl, same);
@@ -38,10 +37,10 @@ turned_short c a x held rest old new failed short m later same calm = record {
 }
 
 -- what came is no reply
-pub turned_no_reply : {S : Type 0} (c : Supplying S) (a : Supplier) (x : S) (held rest : List ℕ) (old new : Sides)
-    → Meets held old.left old.read_faults (Ok next.NoReply) rest new.left new.read_faults → old.read_faults ≤ new.read_faults
-    → new.contents ≡ old.contents → new.write_faults ≡ old.write_faults → Turned c a x held old (Ok turn.NoReply) a x rest new
-turned_no_reply c a x held rest old new m later same calm = record {
+pub turned_no_reply : {S : Type 0} (c : Supplying S) (a : Supplier) (x : S) (held rest : List ℕ) (left left_now contents contents_now : Option (List ℕ)) (reads reads_now writes writes_now : ℕ)
+    → Meets held left reads (Ok next.NoReply) rest left_now reads_now → reads ≤ reads_now → contents_now ≡ contents → writes_now ≡ writes
+    → Turned c a x held (sides left contents reads writes) (Ok turn.NoReply) a x rest (sides left_now contents_now reads_now writes_now)
+turned_no_reply c a x held rest left left_now contents contents_now reads reads_now writes writes_now m later same calm = record {
   all = m.all;
   comes = m.comes;
   goes = (m.meets, refl, same);
@@ -50,10 +49,10 @@ turned_no_reply c a x held rest old new m later same calm = record {
 }
 
 -- no reply came
-pub turned_unanswered : {S : Type 0} (c : Supplying S) (a : Supplier) (x : S) (held rest : List ℕ) (old new : Sides)
-    → Meets held old.left old.read_faults (Ok next.Unanswered) rest new.left new.read_faults → old.read_faults ≤ new.read_faults
-    → new.contents ≡ old.contents → new.write_faults ≡ old.write_faults → Turned c a x held old (Ok turn.Unanswered) a x rest new
-turned_unanswered c a x held rest old new m later same calm = record {
+pub turned_unanswered : {S : Type 0} (c : Supplying S) (a : Supplier) (x : S) (held rest : List ℕ) (left left_now contents contents_now : Option (List ℕ)) (reads reads_now writes writes_now : ℕ)
+    → Meets held left reads (Ok next.Unanswered) rest left_now reads_now → reads ≤ reads_now → contents_now ≡ contents → writes_now ≡ writes
+    → Turned c a x held (sides left contents reads writes) (Ok turn.Unanswered) a x rest (sides left_now contents_now reads_now writes_now)
+turned_unanswered c a x held rest left left_now contents contents_now reads reads_now writes writes_now m later same calm = record {
   all = m.all;
   comes = m.comes;
   goes = (m.meets.0, m.meets.1, refl, same);
@@ -72,60 +71,71 @@ goes_so c a b x y all rest r (Ok turn.Unanswered) old new front h = absurd h
 goes_so c a b x y all rest r (Ok turn.Unwritten) old new front h = (h.0, record { reply = r; front = front; hears = h.1 }, h.2, h.3)
 goes_so c a b x y all rest r (Err short) old new front h = h
 
-pub turned_heard : {S : Type 0} (c : Supplying S) (a b : Supplier) (x y : S) (held rest : List ℕ) (r : Reply) (result : Result Turn NoMemory) (old new : Sides) (left contents : Option (List ℕ)) (reads writes : ℕ)
-    → Meets held old.left old.read_faults (Ok (next.Heard r)) rest left reads → old.read_faults ≤ reads → contents ≡ old.contents → writes ≡ old.write_faults
-    → AnswersSo c a x (heard a.awaited a.sent r) contents writes result b y new.contents new.write_faults → writes ≤ new.write_faults
-    → new.left ≡ left → new.read_faults ≡ reads → Turned c a x held old result b y rest new
-turned_heard c a b x y held rest r result old new left contents reads writes m later same quiet answers after kept calm = record {
+pub turned_heard : {S : Type 0} (c : Supplying S) (a b : Supplier) (x y : S) (held rest : List ℕ) (r : Reply) (result : Result Turn NoMemory) (left left_now left_next contents contents_now contents_next : Option (List ℕ)) (reads reads_now reads_next writes writes_now writes_next : ℕ)
+    → Meets held left reads (Ok (next.Heard r)) rest left_now reads_now → reads ≤ reads_now → contents_now ≡ contents → writes_now ≡ writes
+    → AnswersSo c a x (heard a.awaited a.sent r) contents_now writes_now result b y contents_next writes_next → writes_now ≤ writes_next
+    → left_next ≡ left_now → reads_next ≡ reads_now
+    → Turned c a x held (sides left contents reads writes) result b y rest (sides left_next contents_next reads_next writes_next)
+turned_heard c a b x y held rest r result left left_now left_next contents contents_now contents_next reads reads_now reads_next writes writes_now writes_next m later same quiet answers after kept calm = record {
   all = m.all;
-  comes = subst (λ (l : Option (List ℕ)). Comes held old.left m.all l) (sym kept) m.comes;
-  goes = goes_so c a b x y m.all rest r result old new m.meets
-      (subst (λ (k : Option (List ℕ)). AnswersSo c a x (heard a.awaited a.sent r) k old.write_faults result b y new.contents new.write_faults) same
-      (subst (λ (n : ℕ). AnswersSo c a x (heard a.awaited a.sent r) contents n result b y new.contents new.write_faults) quiet answers));
+  comes = subst (λ (l : Option (List ℕ)). Comes held left m.all l) (sym kept) m.comes;
+  goes = goes_so c a b x y m.all rest r result (sides left contents reads writes) (sides left_next contents_next reads_next writes_next) m.meets
+      (subst (λ (k : Option (List ℕ)). AnswersSo c a x (heard a.awaited a.sent r) k writes result b y contents_next writes_next) same
+      (subst (λ (n : ℕ). AnswersSo c a x (heard a.awaited a.sent r) contents_now n result b y contents_next writes_next) quiet answers));
   reads = omega (arith, later, calm);
   writes = omega (arith, quiet, after);
 }
 
 -- ---- turns one behind the other
 
--- WHERE A SESSION IS BEHIND A TURN: it goes on, or it has ended
-abbrev pub JoinsSo : {S : Type 0} → Supplying S → Supplier → S → Sides → Result Turn NoMemory → Supplier → S → List ℕ → Sides → Type 0
-JoinsSo c start supply old (Ok turn.Sent) b y rest new = Goes c start supply old b y rest new.left new.contents
-JoinsSo c start supply old (Ok (turn.Ended end)) b y rest new = Runs c start supply old (Ok (run.Ended end)) y new
-JoinsSo c start supply old (Ok turn.NoReply) b y rest new = Runs c start supply old (Ok (run.Ended Strange)) y new
-JoinsSo c start supply old (Ok turn.Unanswered) b y rest new = Runs c start supply old (Ok run.Lost) y new
-JoinsSo c start supply old (Ok turn.Unwritten) b y rest new = Runs c start supply old (Ok run.Lost) y new
-JoinsSo c start supply old (Err short) b y rest new = Runs c start supply old (Err short) y new
+-- a turn behind a session so far
+module _ {S : Type 0} (c : Supplying S) (start a b : Supplier) (supply x y : S) (held rest : List ℕ) (old : Sides) (left left_next contents contents_next : Option (List ℕ)) (reads reads_next writes writes_next : ℕ) where
+  -- before the reply was heard
+  read_behind : (all : List ℕ) → Goes c start supply old a x held left contents → Comes held left all left_next → Goes c start supply old a x all left_next contents
+  read_behind all h comes = waits c start a supply x old held all left left_next contents h comes
 
--- nothing was written
-unwritten_yet : {S : Type 0} (c : Supplying S) (start a : Supplier) (supply x : S) (old new : Sides) (all : List ℕ) (contents : Option (List ℕ))
-    → Goes c start supply old a x all new.left contents → new.contents ≡ contents → Goes c start supply old a x all new.left new.contents
-unwritten_yet c start a supply x old new all contents h same = subst (λ (k : Option (List ℕ)). Goes c start supply old a x all new.left k) (sym same) h
+  -- where nothing was written
+  same_behind : (all : List ℕ) → Goes c start supply old a x held left contents → Comes held left all left_next → contents_next ≡ contents → Goes c start supply old a x all left_next contents_next
+  same_behind all h comes same = subst (λ (k : Option (List ℕ)). Goes c start supply old a x all left_next k) (sym same) (read_behind all h comes)
 
-joins_so : {S : Type 0} (c : Supplying S) (start a b : Supplier) (supply x y : S) (all rest : List ℕ) (old here new : Sides) (result : Result Turn NoMemory)
-    → Goes c start supply old a x all new.left here.contents → old.read_faults ≤ here.read_faults → old.write_faults ≤ here.write_faults
-    → GoesSo c a x all here result b y rest new → JoinsSo c start supply old result b y rest new
-joins_so c start a b supply x y all rest old here new (Ok turn.Sent) h reads writes t =
-    goes_on c start a b supply x y old all rest t.0 new.left here.contents new.contents h t.1 t.2
-joins_so c start a b supply x y all rest old here new (Ok (turn.Ended end)) h reads writes t =
-    Runs.heard_so a b x y all rest end new (unwritten_yet c start a supply x old new all here.contents h t.1) t.0
-joins_so {S} c start a b supply x y all rest old here new (Ok turn.NoReply) h reads writes t =
-    subst (λ (s : S). Runs c start supply old (Ok (run.Ended Strange)) s new) (sym t.1)
-    (Runs.no_reply a x all t.0.0 t.0.1 new (unwritten_yet c start a supply x old new all here.contents h t.2) t.0.2)
-joins_so {S} c start a b supply x y all rest old here new (Ok turn.Unanswered) h reads writes t =
-    subst (λ (s : S). Runs c start supply old (Ok run.Lost) s new) (sym t.2)
-    (Runs.unanswered a x all new (unwritten_yet c start a supply x old new all here.contents h t.3) t.0 (since old.read_faults here.read_faults new.read_faults new.left reads t.1))
-joins_so c start a b supply x y all rest old here new (Ok turn.Unwritten) h reads writes t =
-    Runs.unwritten a b x y all rest t.0 here.contents new h t.1 t.2 (rose_since old.write_faults here.write_faults new.write_faults writes t.3)
-joins_so c start a b supply x y all rest old here new (Err short) h reads writes t =
-    Runs.short_later short a x y all new (unwritten_yet c start a supply x old new all here.contents h t.1) t.0
+  pub joins_sent : Goes c start supply old a x held left contents
+      → Turned c a x held (sides left contents reads writes) (Ok turn.Sent) b y rest (sides left_next contents_next reads_next writes_next)
+      → Goes c start supply old b y rest left_next contents_next
+  joins_sent h t = goes_on c start a b supply x y old t.all rest t.goes.0 left_next contents contents_next (read_behind t.all h t.comes) t.goes.1 t.goes.2
 
--- a turn joins the session so far
-pub joins : {S : Type 0} (c : Supplying S) (start a b : Supplier) (supply x y : S) (held rest : List ℕ) (old here new : Sides) (result : Result Turn NoMemory)
-    → Goes c start supply old a x held here.left here.contents → old.read_faults ≤ here.read_faults → old.write_faults ≤ here.write_faults
-    → Turned c a x held here result b y rest new → JoinsSo c start supply old result b y rest new
-joins c start a b supply x y held rest old here new result h reads writes t =
-    joins_so c start a b supply x y t.all rest old here new result (waits c start a supply x old held t.all here.left new.left here.contents h t.comes) reads writes t.goes
+  pub joins_ended : (end : SessionEnd) → Goes c start supply old a x held left contents
+      → Turned c a x held (sides left contents reads writes) (Ok (turn.Ended end)) b y rest (sides left_next contents_next reads_next writes_next)
+      → Runs c start supply old (Ok (run.Ended end)) y (sides left_next contents_next reads_next writes_next)
+  joins_ended end h t =
+      Runs.heard_so a b x y t.all rest end (sides left_next contents_next reads_next writes_next) (same_behind t.all h t.comes t.goes.1) t.goes.0
+
+  pub joins_no_reply : Goes c start supply old a x held left contents
+      → Turned c a x held (sides left contents reads writes) (Ok turn.NoReply) b y rest (sides left_next contents_next reads_next writes_next)
+      → Runs c start supply old (Ok (run.Ended Strange)) y (sides left_next contents_next reads_next writes_next)
+  joins_no_reply h t =
+      subst (λ (s : S). Runs c start supply old (Ok (run.Ended Strange)) s (sides left_next contents_next reads_next writes_next)) (sym t.goes.1)
+      (Runs.no_reply a x t.all t.goes.0.0 t.goes.0.1 (sides left_next contents_next reads_next writes_next) (same_behind t.all h t.comes t.goes.2) t.goes.0.2)
+
+  pub joins_unanswered : Goes c start supply old a x held left contents → old.read_faults ≤ reads
+      → Turned c a x held (sides left contents reads writes) (Ok turn.Unanswered) b y rest (sides left_next contents_next reads_next writes_next)
+      → Runs c start supply old (Ok run.Lost) y (sides left_next contents_next reads_next writes_next)
+  joins_unanswered h later t =
+      subst (λ (s : S). Runs c start supply old (Ok run.Lost) s (sides left_next contents_next reads_next writes_next)) (sym t.goes.2)
+      (Runs.unanswered a x t.all (sides left_next contents_next reads_next writes_next) (same_behind t.all h t.comes t.goes.3) t.goes.0
+      (since old.read_faults reads reads_next left_next later t.goes.1))
+
+  pub joins_unwritten : Goes c start supply old a x held left contents → old.write_faults ≤ writes
+      → Turned c a x held (sides left contents reads writes) (Ok turn.Unwritten) b y rest (sides left_next contents_next reads_next writes_next)
+      → Runs c start supply old (Ok run.Lost) y (sides left_next contents_next reads_next writes_next)
+  joins_unwritten h later t =
+      Runs.unwritten a b x y t.all rest t.goes.0 contents (sides left_next contents_next reads_next writes_next) (read_behind t.all h t.comes) t.goes.1 t.goes.2
+      (rose_since old.write_faults writes writes_next later t.goes.3)
+
+  pub joins_short : (failed short : NoMemory) → Goes c start supply old a x held left contents
+      → Turned c a x held (sides left contents reads writes) (Err failed) b y rest (sides left_next contents_next reads_next writes_next)
+      → Runs c start supply old (Err short) y (sides left_next contents_next reads_next writes_next)
+  joins_short failed short h t =
+      Runs.short_later short a x y t.all (sides left_next contents_next reads_next writes_next) (same_behind t.all h t.comes t.goes.1) t.goes.0
 
 -- ---- before the first turn
 
@@ -134,7 +144,8 @@ pub runs_nothing : {S : Type 0} (c : Supplying S) (start : Supplier) (supply : S
 runs_nothing c start supply old short = Runs.short_at_once short
 
 -- the bind was not written whole
-pub runs_unbound : {S : Type 0} (c : Supplying S) (start : Supplier) (supply : S) (old new : Sides) (bind : List ℕ)
-    → bind ≡ bind_bytes → AppendsFront old.contents new.contents bind → new.left ≡ old.left → Rose old.write_faults new.write_faults
-    → Runs c start supply old (Ok run.Lost) supply new
-runs_unbound c start supply old new bind is wrote kept rose = Runs.unbound new (subst (AppendsFront old.contents new.contents) is wrote) kept rose
+pub runs_unbound : {S : Type 0} (c : Supplying S) (start : Supplier) (supply : S) (old : Sides) (bind : List ℕ) (left contents : Option (List ℕ)) (reads writes : ℕ)
+    → bind ≡ bind_bytes → AppendsFront old.contents contents bind → left ≡ old.left → Rose old.write_faults writes
+    → Runs c start supply old (Ok run.Lost) supply (sides left contents reads writes)
+runs_unbound c start supply old bind left contents reads writes is wrote kept rose =
+    Runs.unbound (sides left contents reads writes) (subst (AppendsFront old.contents contents) is wrote) kept rose
