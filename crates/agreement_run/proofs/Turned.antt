@@ -9,7 +9,6 @@ use Rattle.replica_session.specs.declared.supplier.SessionEnd.TheVariants.{Stran
 use Rattle.replica_session.specs.declared.supplier.Supplier.{Supplier}
 use Rattle.replica_session.specs.Calls.{Supplying}
 use Rattle.replica_session.specs.Messages.{bind_bytes}
-use Rattle.replica_session.specs.Supplier.{heard}
 use Rattle.agreement_run.specs.declared.end.RunEnd.TheVariants as run
 use Rattle.agreement_run.specs.declared.next.Next.TheVariants as next
 use Rattle.agreement_run.specs.declared.turn.Turn.{Turn}
@@ -62,7 +61,7 @@ turned_unanswered c a x held rest left left_now contents contents_now reads read
 
 -- a reply was heard, and this came of it
 goes_so : {S : Type 0} (c : Supplying S) (a b : Supplier) (x y : S) (all rest : List ℕ) (r : Reply) (result : Result Turn NoMemory) (old new : Sides)
-    → BeginsWith all r rest → AnswersSo c a x (heard a.awaited a.sent r) old.contents old.write_faults result b y new.contents new.write_faults
+    → BeginsWith all r rest → AnswersSo c a x r old.contents old.write_faults result b y new.contents new.write_faults
     → GoesSo c a x all old result b y rest new
 goes_so c a b x y all rest r (Ok turn.Sent) old new front h = (h.0, record { reply = r; front = front; hears = h.1 }, h.2)
 goes_so c a b x y all rest r (Ok (turn.Ended end)) old new front h = (record { reply = r; front = front; hears = h.0 }, h.1)
@@ -73,15 +72,15 @@ goes_so c a b x y all rest r (Err short) old new front h = h
 
 pub turned_heard : {S : Type 0} (c : Supplying S) (a b : Supplier) (x y : S) (held rest : List ℕ) (r : Reply) (result : Result Turn NoMemory) (left left_now left_next contents contents_now contents_next : Option (List ℕ)) (reads reads_now reads_next writes writes_now writes_next : ℕ)
     → Meets held left reads (Ok (next.Heard r)) rest left_now reads_now → reads ≤ reads_now → contents_now ≡ contents → writes_now ≡ writes
-    → AnswersSo c a x (heard a.awaited a.sent r) contents_now writes_now result b y contents_next writes_next → writes_now ≤ writes_next
+    → AnswersSo c a x r contents_now writes_now result b y contents_next writes_next → writes_now ≤ writes_next
     → left_next ≡ left_now → reads_next ≡ reads_now
     → Turned c a x held (sides left contents reads writes) result b y rest (sides left_next contents_next reads_next writes_next)
 turned_heard c a b x y held rest r result left left_now left_next contents contents_now contents_next reads reads_now reads_next writes writes_now writes_next m later same quiet answers after kept calm = record {
   all = m.all;
   comes = subst (λ (l : Option (List ℕ)). Comes held left m.all l) (sym kept) m.comes;
   goes = goes_so c a b x y m.all rest r result (sides left contents reads writes) (sides left_next contents_next reads_next writes_next) m.meets
-      (subst (λ (k : Option (List ℕ)). AnswersSo c a x (heard a.awaited a.sent r) k writes result b y contents_next writes_next) same
-      (subst (λ (n : ℕ). AnswersSo c a x (heard a.awaited a.sent r) contents_now n result b y contents_next writes_next) quiet answers));
+      (subst (λ (k : Option (List ℕ)). AnswersSo c a x r k writes result b y contents_next writes_next) same
+      (subst (λ (n : ℕ). AnswersSo c a x r contents_now n result b y contents_next writes_next) quiet answers));
   reads = omega (arith, later, calm);
   writes = omega (arith, quiet, after);
 }

@@ -11,7 +11,6 @@ use Rattle.ldap_types.specs.declared.reply.Reply.{Reply}
 use Rattle.ldap_replies.specs.Grammar.{reply_at}
 use Rattle.replica_session.specs.declared.supplier.SupplyStep.{SupplyStep}
 use Rattle.replica_session.specs.declared.supplier.SupplyStep.TheVariants as step
-use Rattle.replica_session.specs.declared.supplier.Heard.{Heard}
 use Rattle.replica_session.specs.declared.supplier.Supplier.{Supplier}
 use Rattle.replica_session.specs.Calls.{Supplying}
 use Rattle.replica_session.specs.Supplier.{heard, HearsSo, Asks}
@@ -21,15 +20,15 @@ use Rattle.agreement_run.specs.Front.{BeginsWith}
 use Rattle.agreement_run.specs.Sides.{Sides}
 use Rattle.agreement_run.specs.Waiting.{Comes}
 
--- What comes of a reply that means this: the message that the supplier says then is written, or a front of it where the write
--- failed; or the reply ended the session.
-abbrev pub AnswersSo : {S : Type 0} → Supplying S → Supplier → S → Heard → Option (List ℕ) → ℕ → Result Turn NoMemory → Supplier → S → Option (List ℕ) → ℕ → Type 0
-AnswersSo c a x meant contents before (Ok turn.Sent) b y written now = (message : List ℕ) × HearsSo c a x meant (step.Send message) b y × Appends contents written message
-AnswersSo c a x meant contents before (Ok (turn.Ended end)) b y written now = HearsSo c a x meant (step.Ended end) b y × (written ≡ contents)
-AnswersSo c a x meant contents before (Ok turn.NoReply) b y written now = ⊥
-AnswersSo c a x meant contents before (Ok turn.Unanswered) b y written now = ⊥
-AnswersSo c a x meant contents before (Ok turn.Unwritten) b y written now = (message : List ℕ) × HearsSo c a x meant (step.Send message) b y × AppendsFront contents written message × Rose before now
-AnswersSo c a x meant contents before (Err short) b y written now = Asks c x y × (written ≡ contents)
+-- What comes of a reply: the message that the supplier says then is written, or a front of it where the write failed; or the
+-- reply ended the session.
+abbrev pub AnswersSo : {S : Type 0} → Supplying S → Supplier → S → Reply → Option (List ℕ) → ℕ → Result Turn NoMemory → Supplier → S → Option (List ℕ) → ℕ → Type 0
+AnswersSo c a x r contents before (Ok turn.Sent) b y written now = (message : List ℕ) × HearsSo c a x (heard a.awaited a.sent r) (step.Send message) b y × Appends contents written message
+AnswersSo c a x r contents before (Ok (turn.Ended end)) b y written now = HearsSo c a x (heard a.awaited a.sent r) (step.Ended end) b y × (written ≡ contents)
+AnswersSo c a x r contents before (Ok turn.NoReply) b y written now = ⊥
+AnswersSo c a x r contents before (Ok turn.Unanswered) b y written now = ⊥
+AnswersSo c a x r contents before (Ok turn.Unwritten) b y written now = (message : List ℕ) × HearsSo c a x (heard a.awaited a.sent r) (step.Send message) b y × AppendsFront contents written message × Rose before now
+AnswersSo c a x r contents before (Err short) b y written now = Asks c x y × (written ≡ contents)
 
 -- THE REPLY IS HEARD: one is in front of these bytes, with these others behind it, and the supplier takes this step.
 pub record Hears {S : Type 0} (c : Supplying S) (a : Supplier) (x : S) (all : List ℕ) (does : SupplyStep) (b : Supplier) (y : S) (rest : List ℕ) : Type 0 where

@@ -1,7 +1,6 @@
 //! One turn of a session over a stream.
 
 ghost use Rattle.std.specs.Prelude.{◌≡◌, ◌≤◌};
-ghost use Rattle.replica_session.specs.Supplier.{heard};
 ghost use Rattle.agreement_run.specs.Sides.{sides};
 ghost use Rattle.agreement_run.specs.Turn.{AnswersSo, Turned};
 
@@ -38,7 +37,7 @@ fn answer<S: Supply, T: Stream>(
     stream: &mut T,
     reply: &Reply,
 ) -> Result<Turn, NoMemory>
-    ensures answers { AnswersSo S.supplying supplier.old supply.old (heard supplier.old.awaited supplier.old.sent reply.now) (T.contents stream.old) (T.Sink.faults stream.old) result supplier.new supply.new (T.contents stream.new) (T.Sink.faults stream.new) }
+    ensures answers { AnswersSo S.supplying supplier.old supply.old reply.now (T.contents stream.old) (T.Sink.faults stream.old) result supplier.new supply.new (T.contents stream.new) (T.Sink.faults stream.new) }
     ensures later { T.Sink.faults stream.old ≤ T.Sink.faults stream.new }
     ensures left { T.left stream.new ≡ T.left stream.old }
     ensures faults { T.Source.faults stream.new ≡ T.Source.faults stream.old }
