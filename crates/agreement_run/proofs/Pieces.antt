@@ -64,7 +64,7 @@ begins_with bytes held rest size r same found in_range gone = record {
 pub rose_since : (before now next : ℕ) → before ≤ now → Rose now next → Rose before next
 rose_since before now next later rose = omega (arith, later, rose)
 
-since : (first before now : ℕ) (left : Option (List ℕ)) → first ≤ before → Rose before now ⊎ IsAtEnd left → Rose first now ⊎ IsAtEnd left
+pub since : (first before now : ℕ) (left : Option (List ℕ)) → first ≤ before → Rose before now ⊎ IsAtEnd left → Rose first now ⊎ IsAtEnd left
 since first before now left later (inl rose) = inl (rose_since first before now later rose)
 since first before now left later (inr end) = inr end
 

@@ -6,3 +6,6 @@ returns-in_default g c = runs_nothing g.S.Supply.supplying _ _ _ _
 
 pub returns : goal.returns
 returns g c = rw c.in-Ok.ensures at c.run.ensures
+
+pub returns-in_default-new : goal.returns-in_default-new
+returns-in_default-new g c = runs_nothing g.S.Supply.supplying _ _ _ _
