@@ -1,5 +1,5 @@
 -- A session over a stream, step by step.
-use Rattle.std.proofs.Common.{◌≡◌, ℕ, List, [], ◌∷◌, ◌++◌, Option, refl, sym, subst}
+use Rattle.std.proofs.Common.{◌≡◌, ℕ, List, [], ◌∷◌, ◌++◌, Option, sym, subst}
 use Rattle.std.specs.Io.KnownBytes.{Appends}
 use Rattle.replica_session.specs.declared.supplier.SupplyStep.TheVariants as step
 use Rattle.replica_session.specs.declared.supplier.Supplier.{Supplier}

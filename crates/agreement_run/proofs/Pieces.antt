@@ -1,22 +1,13 @@
 -- Pieces of what is held.
-use Rattle.std.proofs.Common.{take_at, length-take-le, length-drop, ◌≡◌, ℕ, ◌+◌, ◌-◌, ◌≤◌, List, [], ◌++◌, Option, Some, None, length, take, drop, refl, sym, ap, ◌∙◌, subst, arith, take-add, append-nil, append_assoc, take-append-drop, ◌⊎◌, inl, inr, Err, Ok}
+use Rattle.std.proofs.Common.{take_at, length-take-le, length-drop, ◌≡◌, ℕ, ◌+◌, ◌-◌, ◌≤◌, List, ◌++◌, Option, length, take, drop, sym, ap, ◌∙◌, arith, take-add, append_assoc, ◌⊎◌, inl, inr, Err, Ok}
 use Rattle.std.proofs.KnownBytes.{Consumes-trans}
 use Rattle.std.proofs.lemmas.List.{drop-take}
-use Rattle.std.specs.Io.KnownBytes.{Consumes, Keeps, IsAtEnd}
+use Rattle.std.specs.Io.KnownBytes.{Consumes, IsAtEnd}
 use Rattle.io_edge.specs.Causes.{Rose}
 use Rattle.ber_core.specs.Window.{More}
-use Rattle.ldap_types.specs.declared.reply.Reply.{Reply}
-use Rattle.ldap_replies.specs.Form.{reply_bytes, IsInRange}
 use Rattle.ldap_replies.specs.Grammar.{reply_at}
 use Rattle.agreement_run.specs.declared.next.Next.TheVariants as next
-use Rattle.agreement_run.specs.Front.{BeginsWith}
 use Rattle.agreement_run.specs.Waiting.{Comes, Meets}
-
--- nothing came
-pub none_came : (held : List ℕ) (left left_now : Option (List ℕ)) → Keeps left left_now → Comes held left held left_now
-none_came held None left_now kept = record { piece = []; joined = sym (append-nil held); taken = tt }
-none_came held (Some xs) None kept = absurd kept
-none_came held (Some xs) (Some ys) kept = record { piece = []; joined = sym (append-nil held); taken = sym kept }
 
 -- what came was read behind what was held
 pub some_came : (held old new written : List ℕ) (count n : ℕ) (left left_now : Option (List ℕ))
@@ -50,13 +41,6 @@ front_gone held old row new size count held_is row_is some within is =
     ∙ ap (λ (k : ℕ). drop size (take k row)) whole
     ∙ ap (λ (l : List ℕ). drop size (take count l)) row_is
     ∙ ap (drop size) (sym held_is)
-
--- a reply was in front, and its bytes are gone
-pub begins_with : (bytes held rest : List ℕ) (size : ℕ) (r : Reply) → bytes ≡ held → take size bytes ≡ reply_bytes r → IsInRange r → rest ≡ drop size held → BeginsWith held r rest
-begins_with bytes held rest size r same found in_range gone = record {
-  spelled = sym (take-append-drop size held) ∙ ap (λ (l : List ℕ). l ++ drop size held) (ap (take size) (sym same) ∙ found) ∙ ap (λ (l : List ℕ). reply_bytes r ++ l) (sym gone);
-  in_range = in_range;
-}
 
 -- ---- no reply came
 

@@ -1,5 +1,5 @@
 -- One turn of a session over a stream, and turns one behind the other.
-use Rattle.std.proofs.Common.{◌≡◌, ◌≤◌, ℕ, List, Option, Result, Ok, Err, inl, inr, refl, sym, subst, arith}
+use Rattle.std.proofs.Common.{◌≡◌, ◌≤◌, ℕ, List, Option, Result, Ok, Err, inl, refl, sym, subst, arith}
 use Rattle.repl_data.specs.declared.items.NoMemory.{NoMemory}
 use Rattle.io_edge.specs.Causes.{Rose}
 use Rattle.io_edge.specs.Edge.{AppendsFront}

@@ -1,5 +1,5 @@
 use Rattle.std.proofs.Common.{arith, ◌∙◌, inl, inr}
-use Rattle.agreement_run.proofs.Pieces.{came_more, begins_with, meets_none}
+use Rattle.agreement_run.proofs.Pieces.{came_more, meets_none}
 use Rattle.agreement_run.proofs.next.next_reply.Goals as goal
 
 pub returns-in_default-clause-meets : goal.returns-in_default-clause-meets

@@ -1,4 +1,4 @@
-use Rattle.std.proofs.Common.{◌≡◌, ◌≤◌}
+use Rattle.std.proofs.Common.{◌≤◌}
 use Rattle.agreement_run.specs.Sides.{sides}
 use Rattle.agreement_run.specs.Running.{Goes}
 use Rattle.agreement_run.proofs.session.run.Given as goal
