@@ -1,0 +1,5 @@
+pub mod Front
+pub mod Sides
+pub mod Waiting
+pub mod Turn
+pub mod Running
