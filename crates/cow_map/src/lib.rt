@@ -11,10 +11,12 @@ mod page;
 mod pages;
 mod root;
 mod rows;
+mod start;
 mod steps;
 mod walk;
 
 pub use map::CowMap;
 pub use memory::NoMemory;
+pub use start::Start;
 pub use steps::Steps;
 pub use walk::Walk;

@@ -1,14 +1,16 @@
 // The map: versions that share pages.
-ghost use Rattle.std.specs.Prelude.{◌≡◌, ◌+◌, [], None, Some, IfOk, if◌then◌else◌};
+ghost use Rattle.std.specs.Prelude.{◌≡◌, ◌+◌, [], None, Some, IfOk, filter, if◌then◌else◌};
 ghost use Rattle.std.specs.Option.{option_copied};
 ghost use Rattle.std.specs.Ordering.{is_eq};
 ghost use Rattle.std.specs.BTreeMap.{insert_entry, is_at};
 ghost use Rattle.std.specs.Map.{remove_entry};
 ghost use Rattle.cow_map.specs.Rows.{IsRising, ClonesAreEqual, value_at};
+ghost use Rattle.cow_map.specs.Places.{IsUpward};
 
 use crate::memory::NoMemory;
 use crate::pages::{pages_with, pages_without, value_among};
 use crate::root::Root;
+use crate::start::{Start, walk_among};
 use crate::steps::Steps;
 use crate::walk::Walk;
 use std::alloc::Global;
@@ -51,6 +53,13 @@ impl<K: Ord, V> CowMap<K, V> {
         ensures step { steps.new ≡ steps.old + 1 }
     {
         steps.tick();
+        self.find(key)
+    }
+
+    /// What `get` answers, for those who count no steps.
+    pub fn find(&self, key: &K) -> Option<&V>
+        ensures { option_copied result ≡ value_at K.cmp self.now key.now }
+    {
         value_among(self.root.pages(), key)
     }
 
@@ -114,6 +123,14 @@ impl<K: Ord, V> CowMap<K, V> {
         ensures rising { IsRising K.cmp self.now }
     {
         Ok(Walk::over(self.root.pages()))
+    }
+
+    /// Goes over the rows from a place on, in rising order. Two binary searches to find the first of them.
+    pub fn walk_from<S: Start<K>>(&self, start: &S) -> Walk<'_, K, V>
+        requires { IsUpward K.cmp (S.from start.now) }
+        ensures { result ≡ filter (λ row. S.from start.now row.0) self.now }
+    {
+        walk_among(self.root.pages(), start)
     }
 
     /// The same version once more, in constant time. It shares all, and takes no memory at present

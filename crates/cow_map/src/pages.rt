@@ -93,7 +93,7 @@ fn begins_above<K: Ord, V>(page: &Page<K, V>, key: &K) -> bool
 }
 
 /// The rows of the page at this place, and none behind the last one.
-fn rows_at<K, V>(pages: &[Page<K, V>], at: usize) -> &[Row<K, V>]
+pub fn rows_at<K, V>(pages: &[Page<K, V>], at: usize) -> &[Row<K, V>]
     ensures rows { all_rows pages.now ≡ all_rows (take at pages.now) ++ (result.now ++ all_rows (drop (at + 1) pages.now)) }
     ensures most { length result.now ≤ PAGE_ROWS }
 {
@@ -158,7 +158,7 @@ fn replaced<K: Drop, V: Drop>(
 }
 
 /// The pages behind this place.
-fn behind<K, V>(pages: &[Page<K, V>], at: usize) -> &[Page<K, V>]
+pub fn behind<K, V>(pages: &[Page<K, V>], at: usize) -> &[Page<K, V>]
     ensures { result.now ≡ drop (at + 1) pages.now }
 {
     if at < pages.len() {

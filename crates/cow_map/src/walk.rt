@@ -1,5 +1,5 @@
 // An iterator over the rows of a version.
-ghost use Rattle.std.specs.Prelude.{◌≡◌};
+ghost use Rattle.std.specs.Prelude.{◌≡◌, ◌++◌};
 ghost use Rattle.std.specs.Iterator.{YieldsFirstBy, item_count};
 ghost use Rattle.std.specs.Map.Iter.{deref_pair};
 ghost use Rattle.cow_map.specs.Rows.{all_rows};
@@ -30,6 +30,13 @@ impl<'a, K, V> Walk<'a, K, V> {
         ensures { result ≡ all_rows pages.now }
     {
         Walk { rows: &[], pages }
+    }
+
+    /// Goes over the rows, and then over those of the pages.
+    pub(crate) fn new(rows: &'a [Row<K, V>], pages: &'a [Page<K, V>]) -> Walk<'a, K, V>
+        ensures { result ≡ rows.now ++ all_rows pages.now }
+    {
+        Walk { rows, pages }
     }
 }
 

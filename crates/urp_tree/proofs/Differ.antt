@@ -21,7 +21,7 @@ use Rattle.repl_data.proofs.InOrder.{is_equal, put-Rises}
 use Rattle.repl_data.proofs.PresenceLaws.{present_of-rule}
 use Rattle.urp_tree.specs.declared.row.Row.{Row}
 use Rattle.urp_tree.specs.declared.changed.Changed.{Changed}
-use Rattle.urp_tree.specs.Rows.{row_at, facts_in}
+use Rattle.urp_tree.specs.Rows.{row_at, taken, facts_in}
 use Rattle.urp_tree.specs.declared.child.Child.{Child}
 use Rattle.urp_tree.specs.declared.step.Step.{Step}
 use Rattle.urp_tree.specs.Walk.{child_of, children_of_facts, children_in, stepped}
@@ -30,6 +30,7 @@ use Rattle.urp_tree.specs.Planned.{IsFreshRow}
 use Rattle.urp_tree.specs.Seen.{present_entry, tombstone}
 use Rattle.urp_tree.specs.Placed.{at_child, loses_in, place_in, same_bool, same_place, ArePlaces, KeepsPlaces, LeavesRest}
 use Rattle.urp_tree.specs.Changes.{shown_at, glue_at, parent_at, values_at, IsSame, Differs, IsTold, is_listed, HasRisingChanges, AreChanges, shown_with, before_of, changed_as, changes_in, changes_at, changes_of}
+use Rattle.urp_tree.specs.Moves.{kept as kept_attr, told_present, told_gone, HasRisingPresent, HasRisingGone, StandsAs, StaysAs, IsViewMove, empty_view, told_seat}
 use Rattle.urp_tree.proofs.Settled.{all_present, all_put, among_put, rising_children}
 use Rattle.urp_tree.proofs.Levels.{the_one, self_put, self_eq, StandsAt}
 use Rattle.urp_tree.proofs.Fits.{no_row, row_id, row_among}
@@ -150,6 +151,96 @@ module _ (es : List EntryFacts) (u : Uid) (f : EntryFacts) (o : IsOnly u f es) (
 
   pub name_is : name_of seen u ≡ Some f.rdn
   name_is = either_way (λ (e : PresentEntry). e.name) (λ (e : Tombstone). e.name) f.rdn refl refl
+
+  pub stands_present : present_at seen u ≡ option_map (λ lost. record { id = u; parent = f.parent; name = f.rdn; shown = shown_with f lost; is_glue = not (is_live f); attrs = attrs_shown f }) spot
+  stands_present = by (is_among_entries here u) refl
+    where
+      by : (b : Bool) → is_among_entries here u ≡ b → present_at seen u ≡ option_map (λ lost. record { id = u; parent = f.parent; name = f.rdn; shown = shown_with f lost; is_glue = not (is_live f); attrs = attrs_shown f }) spot
+      by true h =
+          is_present true h
+          ∙ (λ i. Some (record { id = id i; parent = f.parent; name = f.rdn; shown = turned (has_name here f) f.rdn (with_id f.id f.rdn) i; is_glue = not (is_live f); attrs = attrs_shown f }))
+          ∙ sym (ap (option_map (λ lost. record { id = u; parent = f.parent; name = f.rdn; shown = shown_with f lost; is_glue = not (is_live f); attrs = attrs_shown f })) (place_is true h))
+      by false h =
+          is_present false h
+          ∙ sym (ap (option_map (λ lost. record { id = u; parent = f.parent; name = f.rdn; shown = shown_with f lost; is_glue = not (is_live f); attrs = attrs_shown f })) (place_is false h))
+
+  pub stands_gone : gone_at seen u ≡ cond (is_some spot) None (Some (record { id = u; parent = f.parent; name = f.rdn; attrs = attrs_shown f }))
+  stands_gone = by (is_among_entries here u) refl
+    where
+      by : (b : Bool) → is_among_entries here u ≡ b → gone_at seen u ≡ cond (is_some spot) None (Some (record { id = u; parent = f.parent; name = f.rdn; attrs = attrs_shown f }))
+      by true h = is_absent true h ∙ sym (ap (λ x. cond (is_some x) None (Some (record { id = u; parent = f.parent; name = f.rdn; attrs = attrs_shown f }))) (place_is true h))
+      by false h =
+          is_absent false h
+          ∙ (λ i. Some (record { id = id i; parent = f.parent; name = f.rdn; attrs = attrs_shown f }))
+          ∙ sym (ap (λ x. cond (is_some x) None (Some (record { id = u; parent = f.parent; name = f.rdn; attrs = attrs_shown f }))) (place_is false h))
+
+-- attributes that are kept to be shown
+kept_users : (attrs : List Attr) → map kept_attr (map user attrs) ≡ attrs
+kept_users [] = refl
+kept_users (a ∷ attrs) = ap (λ r. a ∷ r) (kept_users attrs)
+
+-- an entry stands as its row tells it
+pub row_stands_as : (rows : BTreeMap Uid (Option Row)) (es : List EntryFacts) (u : Uid) (r : Row) → IsOnly u r.entry es → is_among_entries es u ≡ true → r.entry.id ≡ u → r.shown ≡ map user (attrs_shown r.entry) → (suffix : List ℕ) (before place : Option Bool) → place ≡ place_in (children_of_facts es) u
+    → StandsAs (view_of_facts suffix es) (changed_as rows r u before place)
+row_stands_as rows es u r o there id shown suffix before place h = record {
+  present = stands_present es u r.entry o there id suffix ∙ ap (option_map (λ lost. record { id = u; parent = r.entry.parent; name = r.entry.rdn; shown = shown_with r.entry lost; is_glue = not (is_live r.entry); attrs = attrs_shown r.entry })) (sym h) ∙ by place;
+  gone = stands_gone es u r.entry o there id suffix ∙ ap (λ x. cond (is_some x) None (Some (record { id = u; parent = r.entry.parent; name = r.entry.rdn; attrs = attrs_shown r.entry }))) (sym h) ∙ gone_by place;
+}
+  where
+    attrs : attrs_shown r.entry ≡ map kept_attr r.shown
+    attrs = sym (ap (map kept_attr) shown ∙ kept_users (attrs_shown r.entry))
+
+    by : (p : Option Bool) → option_map (λ lost. record { id = u; parent = r.entry.parent; name = r.entry.rdn; shown = shown_with r.entry lost; is_glue = not (is_live r.entry); attrs = attrs_shown r.entry }) p ≡ told_present (changed_as rows r u before p)
+    by None = refl
+    by (Some lost) = λ i. Some (record { id = u; parent = r.entry.parent; name = r.entry.rdn; shown = shown_with r.entry lost; is_glue = not (is_live r.entry); attrs = attrs i })
+
+    gone_by : (p : Option Bool) → cond (is_some p) None (Some (record { id = u; parent = r.entry.parent; name = r.entry.rdn; attrs = attrs_shown r.entry })) ≡ told_gone (changed_as rows r u before p)
+    gone_by None = λ i. Some (record { id = u; parent = r.entry.parent; name = r.entry.rdn; attrs = attrs i })
+    gone_by (Some lost) = refl
+
+-- ids rise in a view of facts whose ids do
+module _ (suffix : List ℕ) where
+  filtered : (p : EntryFacts → Bool) (k : Uid) (es : List EntryFacts) → AllByRecursion (λ (e : EntryFacts). uid_cmp k e.id ≡ Less) es → AllByRecursion (λ (e : EntryFacts). uid_cmp k e.id ≡ Less) (filter p es)
+  filtered p k [] h = tt
+  filtered p k (e ∷ es) h = by (p e) (filtered p k es h.1)
+    where
+      by : (b : Bool) → AllByRecursion (λ (e : EntryFacts). uid_cmp k e.id ≡ Less) (filter p es) → AllByRecursion (λ (e : EntryFacts). uid_cmp k e.id ≡ Less) (cond b (e ∷ filter p es) (filter p es))
+      by true more = (h.0, more)
+      by false more = more
+
+  rising_filter : (p : EntryFacts → Bool) (es : List EntryFacts) → HasRisingFacts es → HasRisingFacts (filter p es)
+  rising_filter p [] r = tt
+  rising_filter p (e ∷ es) r = by (p e) (rising_filter p es r.1)
+    where
+      by : (b : Bool) → HasRisingFacts (filter p es) → HasRisingFacts (cond b (e ∷ filter p es) (filter p es))
+      by true more = (filtered p e.id es r.0, more)
+      by false more = more
+
+  rising_of : (es : List EntryFacts) → HasRisingFacts es → HasRisingFacts (present_of es)
+  rising_of [] r = tt
+  rising_of (e ∷ es) r = by (is_live e || list_any (is_child e.id) (present_of es)) (rising_of es r.1)
+    where
+      by : (b : Bool) → HasRisingFacts (present_of es) → HasRisingFacts (cond b (e ∷ present_of es) (present_of es))
+      by true more = (all_present (λ (f : EntryFacts). uid_cmp e.id f.id ≡ Less) es r.0, more)
+      by false more = more
+
+  all_map : {X : Type 0} (P : X → Type 0) (F : EntryFacts → X) (es : List EntryFacts) → AllByRecursion (λ e. P (F e)) es → AllByRecursion P (map F es)
+  all_map P F [] h = tt
+  all_map P F (e ∷ es) h = (h.0, all_map P F es h.1)
+
+  rising_present_map : (here es : List EntryFacts) → HasRisingFacts es → HasRisingPresent (map (present_entry here) es)
+  rising_present_map here [] r = tt
+  rising_present_map here (e ∷ es) r = (all_map (λ (f : PresentEntry). uid_cmp e.id f.id ≡ Less) (present_entry here) es r.0, rising_present_map here es r.1)
+
+  rising_gone_map : (es : List EntryFacts) → HasRisingFacts es → HasRisingGone (map tombstone es)
+  rising_gone_map [] r = tt
+  rising_gone_map (e ∷ es) r = (all_map (λ (f : Tombstone). uid_cmp e.id f.id ≡ Less) tombstone es r.0, rising_gone_map es r.1)
+
+  pub view_present_rises : (es : List EntryFacts) → HasRisingFacts es → HasRisingPresent (view_of_facts suffix es).present
+  view_present_rises es r = rising_present_map (present_of es) (present_of es) (rising_of es r)
+
+  pub view_gone_rises : (es : List EntryFacts) → HasRisingFacts es → HasRisingGone (view_of_facts suffix es).gone
+  view_gone_rises es r = rising_gone_map (gone_of es) (rising_filter (λ (e : EntryFacts). not (is_among_entries (present_of es) e.id)) es r)
 
 -- the suffix entry has its name
 pub root_place : (es : List EntryFacts) (u : Uid) (f : EntryFacts) → HasRisingFacts es → AllByRecursion HasParentBelow es → IsOnly u f es → is_among_entries es u ≡ true → f.id ≡ u → IsPlain f → IsLiveRoot f → uid_eq u suffix_id ≡ true → place_in (children_of_facts es) u ≡ Some false
@@ -363,6 +454,47 @@ module _ (rows : BTreeMap Uid (Option Row)) (tree : IsTree rows None []) (ordere
             (telling u new (subst (λ x. IsOnly x e fs) is own_only) (subst (λ x. is_among_entries fs x ≡ true) is own_among) is fresh.shown p h, tt)
         by false k = second k (same_place (before u) p)
 
+    -- and as it is told, it stands
+    stand : (u : Uid) (p : Option Bool) → p ≡ after u → AllByRecursion (StandsAs w) (changes_of rows new (u, p))
+    stand u p h = by (uid_eq u e.id) refl
+      where
+        deeper : uid_eq u e.id ≡ false → (o : Option Row) → row_at rows u ≡ o → AllByRecursion (StandsAs w) (changes_in rows o u (before u) p)
+        deeper n None k = tt
+        deeper n (Some r) k = (row_stands_as rows fs u r (only_fs u r k n) (among_fs u r k n) (row_id rows tree ordered u r k) (kept rows tree ordered u r k).shown suffix (before u) p h, tt)
+
+        second : uid_eq u e.id ≡ false → (b : Bool) → AllByRecursion (StandsAs w) (cond b [] (changes_in rows (row_at rows u) u (before u) p))
+        second n true = tt
+        second n false = deeper n (row_at rows u) refl
+
+        by : (b : Bool) → uid_eq u e.id ≡ b → AllByRecursion (StandsAs w) (cond b (changed_as rows new u (before u) p ∷ []) (cond (same_place (before u) p) [] (changes_in rows (row_at rows u) u (before u) p)))
+        by true k =
+            let is : e.id ≡ u = sym (same_id u e.id k) in
+            (row_stands_as rows fs u new (subst (λ x. IsOnly x e fs) is own_only) (subst (λ x. is_among_entries fs x ≡ true) is own_among) is fresh.shown suffix (before u) p h, tt)
+        by false k = second k (same_place (before u) p)
+
+    -- who stays where it was, stays as it was
+    stays_of : (u : Uid) (r : Row) (there : row_at rows u ≡ Some r) (n : uid_eq u e.id ≡ false) → before u ≡ after u → StaysAs v w u
+    stays_of u r there n h =
+        let f : EntryFacts = r.entry in
+        let id : f.id ≡ u = row_id rows tree ordered u r there in
+        let here : is_among_entries es u ≡ true = row_among rows tree ordered u r there in
+        record {
+          present =
+              stands_present fs u f (only_fs u r there n) (among_fs u r there n) id suffix
+              ∙ ap (option_map (λ lost. record { id = u; parent = f.parent; name = f.rdn; shown = shown_with f lost; is_glue = not (is_live f); attrs = attrs_shown f })) (sym h)
+              ∙ sym (stands_present es u f (only_es u r there n) here id suffix);
+          gone =
+              stands_gone fs u f (only_fs u r there n) (among_fs u r there n) id suffix
+              ∙ ap (λ x. cond (is_some x) None (Some (record { id = u; parent = f.parent; name = f.rdn; attrs = attrs_shown f }))) (sym h)
+              ∙ sym (stands_gone es u f (only_es u r there n) here id suffix);
+        }
+
+    stays_away : (u : Uid) → row_at rows u ≡ None → uid_eq u e.id ≡ false → StaysAs v w u
+    stays_away u none n =
+        let a = no_entry es u (no_row rows tree ordered u none) suffix in
+        let b = no_entry fs u (no_fact e u es (other u n) (no_row rows tree ordered u none)) suffix in
+        record { present = b.0 ∙ sym a.0; gone = b.1 ∙ sym a.1 }
+
     -- at most one, of this id
     form : (X : List Changed → Type 0) (u : Uid) (p : Option Bool) → X [] → ((c : Changed) → c.id ≡ u → X (c ∷ [])) → X (changes_of rows new (u, p))
     form X u p none one = by (uid_eq u e.id)
@@ -498,6 +630,50 @@ module _ (rows : BTreeMap Uid (Option Row)) (tree : IsTree rows None []) (ordere
             (all_entries (λ x. AllByRecursion (IsTold v w) (changes_of rows new x)) places.entries sorted (λ k p h. tells k p (told k p h)));
       }
 
+      others : (u : Uid) → is_listed u (changes_all places.entries) ≡ false → StaysAs v w u
+      others u = by (get uid_cmp places u) refl
+        where
+          none : (u : Uid) → get uid_cmp places u ≡ None → uid_eq u e.id ≡ false → (o : Option Row) → row_at rows u ≡ o → StaysAs v w u
+          none u h n None k = stays_away u k n
+          none u h n (Some r) k = stays_of u r k n (decide (uid_eq u suffix_id) (λ t. root_same u r k n t) (λ f. rest u n f h))
+
+          some : (p : Option Bool) → p ≡ after u → is_listed u (changes_of rows new (u, p)) ≡ false → StaysAs v w u
+          some p h l = first (uid_eq u e.id) refl l
+            where
+              deeper : uid_eq u e.id ≡ false → (o : Option Row) → row_at rows u ≡ o → is_listed u (changes_in rows o u (before u) p) ≡ false → StaysAs v w u
+              deeper n None k g = stays_away u k n
+              deeper n (Some r) k g = never (is_listed u (changes_in rows (Some r) u (before u) p)) (ap (λ b. b || false) (self_eq u)) g
+
+              stay : uid_eq u e.id ≡ false → before u ≡ after u → (o : Option Row) → row_at rows u ≡ o → StaysAs v w u
+              stay n s None k = stays_away u k n
+              stay n s (Some r) k = stays_of u r k n s
+
+              second : uid_eq u e.id ≡ false → (b : Bool) → same_place (before u) p ≡ b → is_listed u (cond b [] (changes_in rows (row_at rows u) u (before u) p)) ≡ false → StaysAs v w u
+              second n true k g = stay n (same_places (before u) p k ∙ h) (row_at rows u) refl
+              second n false k g = deeper n (row_at rows u) refl g
+
+              first : (b : Bool) → uid_eq u e.id ≡ b → is_listed u (cond b (changed_as rows new u (before u) p ∷ []) (cond (same_place (before u) p) [] (changes_in rows (row_at rows u) u (before u) p))) ≡ false → StaysAs v w u
+              first true k g = never (is_listed u (changed_as rows new u (before u) p ∷ [])) (ap (λ b. b || false) (self_eq u)) g
+              first false k g = second k (same_place (before u) p) refl g
+
+          by : (o : Option (Option Bool)) → get uid_cmp places u ≡ o → is_listed u (changes_all places.entries) ≡ false → StaysAs v w u
+          by None h l =
+              decide (uid_eq u e.id)
+              (λ t. never (is_some (get uid_cmp places u)) (subst (λ x. is_some (get uid_cmp places x) ≡ true) (sym (same_id u e.id t)) own) (ap is_some h))
+              (λ n. none u h n (row_at rows u) refl)
+          by (Some p) h l = some p (told u p h) (sym (listed_at u places.entries sorted ∙ ap (picked u) h) ∙ l)
+
+      pub is_move : IsViewMove v w (changes_all places.entries)
+      is_move = record {
+        suffix = refl;
+        present = view_present_rises suffix fs rises;
+        gone = view_gone_rises suffix fs rises;
+        told =
+            all_flat (StandsAs w) (changes_of rows new) places.entries
+            (all_entries (λ x. AllByRecursion (StandsAs w) (changes_of rows new x)) places.entries sorted (λ k p h. stand k p (told k p h)));
+        others = others;
+      }
+
   -- the places that steps lead to, with that of the target
   module _ (ss : List Step) (leads : stepped ss (children_in rows) ≡ children_of_facts fs) (child : (ss ≡ []) ⊎ (uid_eq e.id suffix_id ≡ false)) (found with_own : BTreeMap Uid (Option Bool)) (target : Uid) (is : target ≡ e.id)
       (placed : ArePlaces (stepped ss (children_in rows)) found) (rest : LeavesRest (children_in rows) (stepped ss (children_in rows)) found)
@@ -522,3 +698,73 @@ module _ (rows : BTreeMap Uid (Option Row)) (tree : IsTree rows None []) (ordere
         (λ u p h. more (stepped ss (children_in rows)) root_stays rest placed u p h ∙ ap (λ ds. place_in ds u) leads)
         (λ u n r none. rest u r (less_places u none) ∙ ap (λ ds. place_in ds u) leads)
         (subst (λ u. is_some (get uid_cmp with_own u) ≡ true) is own)
+
+    pub placed_moves : (suffix : List ℕ) → (sorted : HasOrderedKeys uid_cmp with_own) → IsViewMove (view_of_facts suffix es) (view_of_facts suffix fs) (flat_map (changes_of rows new) with_own.entries)
+    placed_moves suffix sorted =
+        is_move suffix with_own sorted
+        (λ u p h. more (stepped ss (children_in rows)) root_stays rest placed u p h ∙ ap (λ ds. place_in ds u) leads)
+        (λ u n r none. rest u r (less_places u none) ∙ ap (λ ds. place_in ds u) leads)
+        (subst (λ u. is_some (get uid_cmp with_own u) ≡ true) is own)
+
+-- ALL ENTRIES, as their rows tell them
+module _ (rows : BTreeMap Uid (Option Row)) (tree : IsTree rows None []) (ordered : HasOrderedKeys uid_cmp rows) (suffix : List ℕ) where
+  abbrev whole : List EntryFacts
+  whole = facts_in rows.entries
+
+  seats_stand : (xs : List (Uid × Option Row)) → IsStrictlySortedBy uid_cmp (keys_of xs) → ((u : Uid) (o : Option Row) → lookup (is_at (uid_cmp u)) xs ≡ Some o → row_at rows u ≡ o) → AllByRecursion (StandsAs (view_of_facts suffix whole)) (flat_map (told_seat rows) xs)
+  seats_stand [] o f = tt
+  seats_stand ((k, seat) ∷ xs) o f =
+      all_both (StandsAs (view_of_facts suffix whole)) (told_seat rows (k, seat)) (flat_map (told_seat rows) xs)
+      (by seat (f k seat (ap (λ b. cond b (Some seat) (lookup (is_at (uid_cmp k)) xs)) (self_eq k))))
+      (seats_stand xs (sorted_tail uid_cmp k (keys_of xs) o) (λ u p h. f u p (seat_later u p h)))
+    where
+      by : (s : Option Row) → row_at rows k ≡ s → AllByRecursion (StandsAs (view_of_facts suffix whole)) (changes_in rows s k None (place_in (children_in rows) k))
+      by None h = tt
+      by (Some r) h = (row_stands_as rows whole k r (only rows tree ordered k r h) (row_among rows tree ordered k r h) (row_id rows tree ordered k r h) (kept rows tree ordered k r h).shown suffix None (place_in (children_in rows) k) refl, tt)
+
+      no_later : (u : Uid) (ys : List (Uid × Option Row)) → AllByRecursion (λ (v : Uid). uid_cmp u v ≡ Less) (keys_of ys) → lookup (is_at (uid_cmp u)) ys ≡ None
+      no_later u [] h = refl
+      no_later u (y ∷ ys) h = ap (λ o. cond (is_eq o) (Some y.1) (lookup (is_at (uid_cmp u)) ys)) h.0 ∙ no_later u ys h.1
+
+      seat_later : (u : Uid) (p : Option Row) → lookup (is_at (uid_cmp u)) xs ≡ Some p → lookup (is_at (uid_cmp u)) ((k, seat) ∷ xs) ≡ Some p
+      seat_later u p h =
+          split (uid_cmp u k)
+          (λ c. ap (λ x. cond (is_eq x) (Some seat) (lookup (is_at (uid_cmp u)) xs)) c ∙ h)
+          (λ c. let g : ◌≡◌ {A = Option (Option Row)} None (Some p) = sym (subst (λ v. lookup (is_at (uid_cmp v)) xs ≡ None) (sym (uid_exact u k c)) (no_later k xs (sorted_head uid_cmp k (keys_of xs) o))) ∙ h in cc)
+          (λ c. ap (λ x. cond (is_eq x) (Some seat) (lookup (is_at (uid_cmp u)) xs)) c ∙ h)
+
+  listed_seat : (u : Uid) (r : Row) (xs : List (Uid × Option Row)) → lookup (is_at (uid_cmp u)) xs ≡ Some (Some r) → is_listed u (flat_map (told_seat rows) xs) ≡ true
+  listed_seat u r [] h = let e : ◌≡◌ {A = Option (Option Row)} None (Some (Some r)) = h in cc
+  listed_seat u r ((k, seat) ∷ xs) h = listed_in u (told_seat rows (k, seat)) (flat_map (told_seat rows) xs) ∙ by (is_eq (uid_cmp u k)) refl h (listed_seat u r xs)
+    where
+      later : (a b : Bool) → b ≡ true → (a || b) ≡ true
+      later true b e = refl
+      later false b e = e
+
+      here : (s : Option Row) → Some s ≡ Some (Some r) → u ≡ k → (is_listed u (changes_in rows s k None (place_in (children_in rows) k)) || is_listed u (flat_map (told_seat rows) xs)) ≡ true
+      here None e is = let g : ◌≡◌ {A = Option Row} None (Some r) = (let q : Some None ≡ Some (Some r) = e in cc) in cc
+      here (Some t) e is = ap (λ b. (b || false) || is_listed u (flat_map (told_seat rows) xs)) (ap (λ w. uid_eq w u) (sym is) ∙ self_eq u)
+
+      by : (b : Bool) → is_eq (uid_cmp u k) ≡ b → cond b (Some seat) (lookup (is_at (uid_cmp u)) xs) ≡ Some (Some r) → (lookup (is_at (uid_cmp u)) xs ≡ Some (Some r) → is_listed u (flat_map (told_seat rows) xs) ≡ true) → (is_listed u (told_seat rows (k, seat)) || is_listed u (flat_map (told_seat rows) xs)) ≡ true
+      by true e g more = here seat g (same_id u k e)
+      by false e g more = later (is_listed u (told_seat rows (k, seat))) (is_listed u (flat_map (told_seat rows) xs)) (more g)
+
+  all_others : (u : Uid) → is_listed u (flat_map (told_seat rows) rows.entries) ≡ false → StaysAs (empty_view suffix) (view_of_facts suffix whole) u
+  all_others u l = by (get uid_cmp rows u) refl
+    where
+      away : row_at rows u ≡ None → StaysAs (empty_view suffix) (view_of_facts suffix whole) u
+      away h = let a = no_entry whole u (no_row rows tree ordered u h) suffix in record { present = a.0; gone = a.1 }
+
+      by : (o : Option (Option Row)) → get uid_cmp rows u ≡ o → StaysAs (empty_view suffix) (view_of_facts suffix whole) u
+      by None h = away (ap taken h)
+      by (Some None) h = away (ap taken h)
+      by (Some (Some r)) h = never (is_listed u (flat_map (told_seat rows) rows.entries)) (listed_seat u r rows.entries h) l
+
+  pub all_told_move : IsViewMove (empty_view suffix) (view_of_facts suffix whole) (flat_map (told_seat rows) rows.entries)
+  all_told_move = record {
+    suffix = refl;
+    present = view_present_rises suffix whole tree.rises;
+    gone = view_gone_rises suffix whole tree.rises;
+    told = seats_stand rows.entries ordered (λ u o h. ap taken h);
+    others = all_others;
+  }

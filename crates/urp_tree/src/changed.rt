@@ -10,6 +10,7 @@ ghost use Rattle.urp_tree.specs.Known.{IsTree, IsPlain, IsLiveRoot, put_fact};
 ghost use Rattle.urp_tree.specs.Planned.{IsFreshRow};
 ghost use Rattle.urp_tree.specs.Placed.{same_bool, same_place};
 ghost use Rattle.urp_tree.specs.Changes.{shown_with, before_of, changed_as, changes_of, AreChanges};
+ghost use Rattle.urp_tree.specs.Moves.{IsViewMove, empty_view, told_seat};
 
 use crate::named::same_id;
 use crate::places::{Places, place, places_after, put_own};
@@ -187,7 +188,8 @@ pub(crate) fn changes(
     requires rooted { is_among_entries (facts_in rows.now.entries) new.now.entry.parent ≡ true }
     requires root { IsLiveRoot new.now.entry }
     requires plain { IsPlain new.now.entry }
-    ensures { IfOk result (λ cs. (suffix : List ℕ) → AreChanges (view_of_facts suffix (facts_in rows.now.entries)) (view_of_facts suffix (put_fact new.now.entry (facts_in rows.now.entries))) new.now.entry.id cs) }
+    ensures changed { IfOk result (λ cs. (suffix : List ℕ) → AreChanges (view_of_facts suffix (facts_in rows.now.entries)) (view_of_facts suffix (put_fact new.now.entry (facts_in rows.now.entries))) new.now.entry.id cs) }
+    ensures moves { IfOk result (λ cs. (suffix : List ℕ) → IsViewMove (view_of_facts suffix (facts_in rows.now.entries)) (view_of_facts suffix (put_fact new.now.entry (facts_in rows.now.entries))) cs) }
 {
     let _seats = seat_count(rows);
     let mut places = places_after(rows, alloc, steps)?;
@@ -195,4 +197,35 @@ pub(crate) fn changes(
     put_own(rows, target, &mut places)?;
     let _count = places.len();
     listed(rows, alloc, new, &places)
+}
+
+/// The entry in a seat, as it is. Two look-ups, and a copy of its names and of its values.
+fn push_told(
+    rows: &Rows,
+    alloc: Global,
+    id: Uid,
+    seat: &Option<Row>,
+    list: &mut ChangedList,
+) -> Result<(), NoMemory>
+    requires { IsTree rows.now None [] }
+    ensures { OnOk result (list.new ≡ list.old ++ told_seat rows.now (id, seat.now)) }
+{
+    let after = place(rows, id);
+    if let Some(row) = seat {
+        list.push(as_changed(rows, alloc, row, id, None, after)?)?;
+    }
+    Ok(())
+}
+
+/// All entries, as a plan would tell them that adds them all.
+pub(crate) fn told(rows: &Rows, alloc: Global) -> Result<ChangedList, NoMemory>
+    requires { IsTree rows.now None [] }
+    ensures { IfOk result (λ cs. (suffix : List ℕ) → IsViewMove (empty_view suffix) (view_of_facts suffix (facts_in rows.now.entries)) cs) }
+{
+    let _seats = seat_count(rows);
+    let mut list = Items::new(alloc);
+    for (id, seat) in rows {
+        push_told(rows, alloc, *id, seat, &mut list)?;
+    }
+    Ok(list)
 }

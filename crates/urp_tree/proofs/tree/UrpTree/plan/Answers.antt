@@ -14,6 +14,7 @@ use Rattle.urp_tree.specs.Known.{Known, IsTree, IsReadyFor, known_view, put_fact
 use Rattle.urp_tree.specs.Climb.{RoomFor, IsWay}
 use Rattle.urp_tree.specs.Planned.{Planned}
 use Rattle.urp_tree.specs.Changes.{AreChanges}
+use Rattle.urp_tree.specs.Moves.{IsViewMove}
 use Rattle.urp_tree.proofs.Plans.{idle, small_enough, planned_tree, planned_ready}
 use Rattle.urp_tree.proofs.Fits.{own_below, own_rooted, own_root}
 use Rattle.urp_tree.proofs.Plain.{own_plain}
@@ -53,7 +54,15 @@ returns-clause-changed c =
     let k : Known = c.args.self.now in
     let facts : facts_in c.forget.new.rows.entries ≡ k.facts = c.forget.ensures.facts ∙ ap (λ (k : Known). k.facts) c.self.view_is in
     subst (λ (p : Planned). AreChanges (known_view k) (view_of_facts k.suffix (put_fact p.entry k.facts)) p.entry.id p.changed) (sym c.of.ensures)
-    (subst (λ (es : List EntryFacts). AreChanges (view_of_facts k.suffix es) (view_of_facts k.suffix (put_fact e es)) e.id c.in_ok-changed.changed) facts (c.in_ok-changed.ensures k.suffix))
+    (subst (λ (es : List EntryFacts). AreChanges (view_of_facts k.suffix es) (view_of_facts k.suffix (put_fact e es)) e.id c.in_ok-changed.changed) facts (c.in_ok-changed.ensures.changed k.suffix))
+
+pub returns-clause-moves : goal.returns-clause-moves
+returns-clause-moves c =
+    let e : EntryFacts = c.in_ok-row.row.entry in
+    let k : Known = c.args.self.now in
+    let facts : facts_in c.forget.new.rows.entries ≡ k.facts = c.forget.ensures.facts ∙ ap (λ (k : Known). k.facts) c.self.view_is in
+    subst (λ (p : Planned). IsViewMove (known_view k) (view_of_facts k.suffix (put_fact p.entry k.facts)) p.changed) (sym c.of.ensures)
+    (subst (λ (es : List EntryFacts). IsViewMove (view_of_facts k.suffix es) (view_of_facts k.suffix (put_fact e es)) c.in_ok-changed.changed) facts (c.in_ok-changed.ensures.moves k.suffix))
 
 pub changes-requires-clause-below : goal.changes-requires-clause-below
 changes-requires-clause-below c =

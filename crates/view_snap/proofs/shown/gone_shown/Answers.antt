@@ -1,0 +1,18 @@
+use Rattle.std.proofs.Common.{◌≡◌, ℕ, List, [], ◌∷◌, ◌++◌, Bool, true, false, cond, map, filter, Option, Some, None, refl, sym, ap, subst, ◌∙◌, append-nil, append_assoc}
+use Rattle.std.specs.Prelude.{option_map}
+use Rattle.std.specs.Option.{option_copied}
+use Rattle.repl_data.specs.declared.csn.Uid.{Uid}
+use Rattle.repl_data.specs.declared.change.Rdn.{Rdn}
+use Rattle.view_snap.specs.Told.{Told, view_of_rows, standing_with, gone_ids}
+use Rattle.view_snap.specs.Maps.{told_at}
+use Rattle.repl_data.specs.View.{DirectoryView, path_of, dn_of, dn_below, shown_present, shown_gone, tombstone_rdn}
+use Rattle.urp_tree.proofs.Fits.{on_each}
+use Rattle.view_snap.specs.Shown.{IsPresentChild, lost_with, shown_with, gone_with}
+use Rattle.view_snap.proofs.shown.gone_shown.Goals as goal
+
+pub returns : goal.returns
+returns c =
+    on_each c.tombstone_shown.result
+    (λ s h. λ rows. h c.args.seen.now.attrs c.users.ensures
+    ∙ (λ i. shown_gone c.args.id (c.in_ok-dn.ensures rows i) (c.parent.ensures i) c.args.seen.now.attrs))
+    c.tombstone_shown.ensures
