@@ -11,3 +11,5 @@ pub mod Alone
 pub mod Machines
 pub mod Taking
 pub mod Joining
+pub mod Named
+pub mod Comparing
