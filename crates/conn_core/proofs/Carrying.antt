@@ -1,12 +1,11 @@
 -- Requests that are carried out one after the other.
-use Rattle.std.proofs.Common.{◌≡◌, ℕ, ◌+◌, false, List, [], ◌∷◌, ◌++◌, drop, Option, Some, Ok, Err, refl, sym, ap, subst, ◌∙◌, append_assoc, append-nil}
+use Rattle.std.proofs.Common.{◌≡◌, ℕ, ◌+◌, false, List, [], ◌∷◌, ◌++◌, drop, Ok, Err, refl, sym, ap, subst, ◌∙◌, append_assoc, append-nil}
 use Rattle.ldap_types.specs.declared.request.Request.{Request}
 use Rattle.ldap_types.specs.declared.request.Op.{Op}
 use Rattle.ldap_types.specs.declared.reply.Identity.{Identity}
 use Rattle.conn_core.specs.Stream.{first_request, is_unbind, BeginsWith, EndsSo}
 use Rattle.search_core.specs.declared.found.Found.{Found}
-use Rattle.ldap_types.specs.declared.reply.ReplyOp.{ReplyOp}
-use Rattle.conn_core.specs.Serving.{Reach, Session, Serves, IsServed, only, sent, replies_to, count_starved}
+use Rattle.conn_core.specs.Serving.{Reach, Session, Serves, IsServed, only, replies_to, count_starved}
 use Rattle.node_core.specs.Answers.{used_up}
 use Rattle.io_edge.specs.declared.machine.Fed.{Fed}
 use Rattle.io_edge.specs.declared.machine.Fed.TheVariants.{Running}
@@ -45,55 +44,6 @@ still_more old between new a b = (a.0 ++ b.0, b.1 ∙ ap (λ (x : List (List ℕ
 
 pub still_bound : (old new : Conn) → new ≡ record old { bound = new.bound } → StillWait old.replies new.replies
 still_bound old new e = still old.replies new.replies (ap (λ (x : Conn). x.replies) e)
-
--- ---- replies that join those that wait
-
--- one after the other
-pub join_more : (old between new : Conn) (some more : List (List ℕ)) → between ≡ record old { replies = old.replies ++ some } → new ≡ record between { replies = between.replies ++ more } → new ≡ record old { replies = old.replies ++ (some ++ more) }
-join_more old between new some more one two =
-    two ∙ ap (λ (x : Conn). record x { replies = x.replies ++ more }) one ∙ ap (λ (x : List (List ℕ)). record old { replies = x }) (append_assoc old.replies some more)
-
-pub join_none : (old new : Conn) (some more : List (List ℕ)) → more ≡ [] → new ≡ record old { replies = old.replies ++ some } → new ≡ record old { replies = old.replies ++ (some ++ more) }
-join_none old new some more none one = one ∙ ap (λ (x : List (List ℕ)). record old { replies = old.replies ++ x }) (sym (ap (λ (x : List (List ℕ)). some ++ x) none ∙ append-nil some))
-
--- and then the response, where there is one
-pub join_response : (old between new : Conn) (some : List (List ℕ)) (id : ℕ) (response : Option ReplyOp) (op : ReplyOp) → response ≡ Some op → between ≡ record old { replies = old.replies ++ some } → new ≡ record between { replies = between.replies ++ sent id (Some op) } → new ≡ record old { replies = old.replies ++ (some ++ sent id response) }
-join_response old between new some id response op is one two = subst (λ (x : Option ReplyOp). new ≡ record old { replies = old.replies ++ (some ++ sent id x) }) (sym is) (join_more old between new some (sent id (Some op)) one two)
-
--- a part of them, and none of those behind it
-pub part_more : (all rest : List (List ℕ)) (old new : Conn) → JoinsPart all old new → JoinsPart (all ++ rest) old new
-part_more all rest old new p = record {
-  added = p.added;
-  missing = p.missing ++ rest;
-  all = ap (λ (x : List (List ℕ)). x ++ rest) p.all ∙ append_assoc p.added p.missing rest;
-  state = p.state;
-}
-
--- the first ones, and then none
-pub part_first : (first rest : List (List ℕ)) (old between new : Conn) → between ≡ record old { replies = old.replies ++ first } → new ≡ between → JoinsPart (first ++ rest) old new
-part_first first rest old between new one two = record { added = first; missing = rest; all = refl; state = two ∙ one }
-
--- ---- some of them, one after the other
-
-pub none_sent : (all : List (List ℕ)) (old : Conn) → (p : JoinsPart all old old) × (p.missing ≡ all)
-none_sent all old = (record { added = []; missing = all; all = refl; state = ap (λ (x : List (List ℕ)). record old { replies = x }) (sym (append-nil old.replies)) }, refl)
-
-pub one_sent : (all rest : List (List ℕ)) (old between new : Conn) (one : List ℕ) (p : JoinsPart all old between) → p.missing ≡ one ∷ rest → new ≡ record between { replies = between.replies ++ one ∷ [] } → (q : JoinsPart all old new) × (q.missing ≡ rest)
-one_sent all rest old between new one p m e = (
-  record {
-    added = p.added ++ one ∷ [];
-    missing = rest;
-    all = p.all ∙ ap (λ (x : List (List ℕ)). p.added ++ x) m ∙ sym (append_assoc p.added (one ∷ []) rest);
-    state = join_more old between new p.added (one ∷ []) p.state e;
-  },
-  refl,
-)
-
-pub same_sent : (all : List (List ℕ)) (old between new : Conn) → JoinsPart all old between → new ≡ between → JoinsPart all old new
-same_sent all old between new p e = record { added = p.added; missing = p.missing; all = p.all; state = e ∙ p.state }
-
-pub all_sent : (all : List (List ℕ)) (old new : Conn) (p : JoinsPart all old new) → p.missing ≡ [] → new ≡ record old { replies = old.replies ++ all }
-all_sent all old new p m = p.state ∙ ap (λ (x : List (List ℕ)). record old { replies = old.replies ++ x }) (sym (p.all ∙ ap (λ (x : List (List ℕ)). p.added ++ x) m ∙ append-nil p.added))
 
 -- ---- how a request leaves a connection
 
@@ -181,6 +131,10 @@ made n bound replies starved = record { node = n; bound = bound; replies = repli
 same_state : {N : Type 0} (a b : Conn) (n : N) → a.bound ≡ b.bound → a.starved ≡ b.starved → a.replies ≡ b.replies → session a n ≡ session b n
 unfolding made
 same_state a b n one two three = ap (λ (x : Identity). made n x a.replies a.starved) one ∙ ap (λ (x : ℕ). made n b.bound a.replies x) two ∙ ap (λ (x : List (List ℕ)). made n b.bound x b.starved) three
+
+-- the same bytes
+pub part_on : {N : Type 0} (c : Reach N) (now : ℕ) (bytes stream : List ℕ) (old new : Session N) → stream ≡ bytes → CarriesPart c now stream old new → CarriesPart c now bytes old new
+part_on c now bytes stream old new e k = subst (λ (x : List ℕ). CarriesPart c now x old new) e k
 
 -- the same state, where only what is held differs
 pub part_kept : {N : Type 0} (c : Reach N) (now : ℕ) (bytes stream : List ℕ) (s : Session N) (left : List ℕ) (a b : Conn) (n : N) → stream ≡ bytes → Carries c now stream s left (session b n)

@@ -28,6 +28,7 @@ use Rattle.filter_truth.specs.Three.{is_yes}
 use Rattle.filter_truth.specs.Truth.{shows}
 use Rattle.view_walk.specs.Tree.{is_present}
 use Rattle.search_core.specs.declared.found.Found.{Found}
+use Rattle.search_core.specs.declared.found.Hits.{Hits}
 use Rattle.search_core.specs.declared.scope.Scope.TheVariants.{Base}
 use Rattle.search_core.specs.Tree.{IsTree}
 use Rattle.search_core.specs.Hits.{is_meant, is_match}
@@ -42,6 +43,9 @@ use Rattle.conn_core.proofs.Named.{has_one, name_some}
 -- ---- the empty name
 
 -- the empty text is no name below a suffix that is not empty
+above_zero : (n : ℕ) → nat_le (suc n) 0 ≡ false
+above_zero n = grind (arith, nat_tests)
+
 nothing_above : (suffix : List ℕ) → is_empty suffix ≡ false → (s : Result Dn DnFault) → dn_in suffix ≡ s → rdns_above s (record { rdns = [] }) ≡ None
 nothing_above suffix some (Err x) e = refl
 nothing_above suffix some (Ok dn) e = by dn.rdns (name_some suffix dn some e)
@@ -50,7 +54,7 @@ nothing_above suffix some (Ok dn) e = by dn.rdns (name_some suffix dn some e)
     by [] h = let f : true ≡ false = h in absurd cc
     by (r ∷ rs) h =
         ap (λ (b : Bool). option_map (λ (count : ℕ). take count []) (cond (b && same_keys (drop (0 - length (r ∷ rs)) []) (r ∷ rs)) (Some (0 - length (r ∷ rs))) (None {A = ℕ})))
-        (let f : nat_le (length (r ∷ rs)) 0 ≡ false = grind (arith, nat_tests) in f)
+        (above_zero (length rs))
 
 nothing_in : (text : List ℕ) → is_empty text ≡ true → text ≡ []
 nothing_in [] k = refl
@@ -125,7 +129,7 @@ module _ (v : DirectoryView) (tree : IsTree v) (vector : List (List ℕ)) (objec
       ap (λ (b : Bool). compare_result (found_of (cond b (dead_hits v vector asked Base rdns) (present_hits v asked Base rdns))) name value) (and_asks [])
       ∙ by_entry rdns (entry_at v rdns) refl
 
-  abbrev hits_named : Dn → Result _ LdapResult
+  abbrev hits_named : Dn → Result Hits LdapResult
   hits_named dn = cond (is_root dn.rdns Base) (Ok (root_hits v asked)) (within (rdns_above (dn_in v.suffix) dn) >>= λ rdns. hits_below v vector asked Base rdns)
 
   no_root : (rdns : List Rdn) → has_one rdns → is_root rdns Base ≡ false

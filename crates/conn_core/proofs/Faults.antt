@@ -10,7 +10,7 @@ use Rattle.ldap_types.specs.declared.reply.LdapResult.{LdapResult}
 use Rattle.io_edge.specs.declared.machine.Fed.{Fed}
 use Rattle.conn_core.specs.declared.conn.Conn.{Conn}
 use Rattle.search_core.specs.declared.found.Found.{Found}
-use Rattle.conn_core.specs.Serving.{Reach, Session, IsWritten, not_begun, settled, aborted, Searches, search_refused, search_answered, Compares, compare_refused, compare_nothing, compare_answered, compare_unasked, compare_starved, ServesOther, Serves, AreServed}
+use Rattle.conn_core.specs.Serving.{Reach, Session, IsWritten, not_begun, settled, aborted, Searches, search_refused, search_answered, Compares, compare_refused, compare_nothing, compare_unasked, compare_asked, ServesOther, Serves, AreServed}
 use Rattle.conn_core.specs.Feeding.{Feeds, CarriesPart, none_missing, some_missing}
 
 pub same_count : {N : Type 0} (c : Reach N) (old new : N) → new ≡ old → c.faults old ≤ c.faults new
@@ -30,9 +30,8 @@ searches_count c controls q old new _ (search_answered answer free s) = s.call.c
 compares_count : {N : Type 0} (c : Reach N) (controls : List Control) (object name value : List ℕ) (old new : N) (result : LdapResult) → Compares c controls object name value old new result → c.faults old ≤ c.faults new
 compares_count c controls object name value old new _ (compare_refused critical e) = same_count c old new e
 compares_count c controls object name value old new _ (compare_nothing free none e) = same_count c old new e
-compares_count c controls object name value old new _ (compare_answered found free some s) = s.call.count
 compares_count c controls object name value old new _ (compare_unasked e) = same_count c old new e
-compares_count c controls object name value old new _ (compare_starved answer s) = s.call.count
+compares_count c controls object name value old new _ (compare_asked answer result free some s told) = s.call.count
 
 others_count : {N : Type 0} (c : Reach N) (now : ℕ) (bound : Identity) (request : Request) (old new : N) (result : LdapResult) → ServesOther c now bound request old new result → c.faults old ≤ c.faults new
 others_count c now bound request old new result h =

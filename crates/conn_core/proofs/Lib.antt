@@ -13,3 +13,5 @@ pub mod Taking
 pub mod Joining
 pub mod Named
 pub mod Comparing
+pub mod Looking
+pub mod Joined

@@ -1,5 +1,5 @@
 -- A text that is not empty is read as a name that is not.
-use Rattle.std.proofs.Common.{◌≡◌, ℕ, ◌+◌, ◌==◌, Bool, true, false, cond, List, [], ◌∷◌, length, Result, Ok, Err, refl, subst, arith}
+use Rattle.std.proofs.Common.{◌≡◌, ℕ, suc, ◌+◌, ◌==◌, Bool, true, false, cond, List, [], ◌∷◌, length, Result, Ok, Err, refl, subst, arith}
 use Rattle.std.proofs.lemmas.Bool.Decides.{nat_tests}
 use Rattle.repl_data.specs.declared.change.Rdn.{Rdn}
 use Rattle.repl_data.specs.Check.{is_empty}
@@ -40,11 +40,14 @@ rdns_some (s ∷ ss) rdns h e = by (rdn_in s) e
     by (Ok rdn) k = later rdn (rdns_in ss) k
     by (Err x) k = let f : ◌≡◌ {A = Result (List Rdn) DnFault} (Err x) (Ok rdns) = k in absurd cc
 
+not_zero : (n : ℕ) → (suc n == 0) ≡ false
+not_zero n = grind (arith, nat_tests)
+
 pub name_some : (text : List ℕ) (dn : Dn) → is_empty text ≡ false → dn_in text ≡ Ok dn → has_one dn.rdns
 unfolding dn_in
 name_some [] dn h e = let f : true ≡ false = h in absurd cc
 name_some (c ∷ cs) dn h e =
-    by (length (c ∷ cs) == 0) (grind (arith, nat_tests)) (rdns_in (pieces 44 0 (c ∷ cs))) refl e
+    by (length (c ∷ cs) == 0) (not_zero (length cs)) (rdns_in (pieces 44 0 (c ∷ cs))) refl e
   where
     by : (b : Bool) → b ≡ false → (r : Result (List Rdn) DnFault) → rdns_in (pieces 44 0 (c ∷ cs)) ≡ r → cond b (Ok (record { rdns = [] })) (r >>= λ rs. Ok (record { rdns = rs })) ≡ Ok dn → has_one dn.rdns
     by true f r g k = let f' : true ≡ false = f in absurd cc

@@ -233,14 +233,19 @@ compare_on find controls object name value =
     else if is_empty object then result_of 32
     else compare_result (find (compare_search object)) name value
 
--- A COMPARE: a critical control is refused before any call, and so is an empty object. Else the result is by what one search
--- finds; or it is `other`, where memory was wanting before the search or behind it.
+-- the result by what a search answered; or `other`, where memory was wanting for the answer or behind it
+abbrev pub IsComparedBy : Result Found NoMemory → List ℕ → List ℕ → LdapResult → Type 0
+IsComparedBy (Ok found) name value result = (result ≡ compare_result found name value) ⊎ (result ≡ result_of 80)
+IsComparedBy (Err short) name value result = result ≡ result_of 80
+
+-- A COMPARE: a critical control is refused before any call, and so is an empty object. Else the result is by one search of the
+-- object, or `other`, where memory was wanting before it.
 pub data Compares {N : Type 0} (c : Reach N) (controls : List Control) (object name value : List ℕ) (old new : N) : LdapResult → Type 0 where
   compare_refused : has_critical controls ≡ true → new ≡ old → Compares c controls object name value old new (result_of 12)
   compare_nothing : has_critical controls ≡ false → is_empty object ≡ true → new ≡ old → Compares c controls object name value old new (result_of 32)
-  compare_answered : (found : Found) → has_critical controls ≡ false → is_empty object ≡ false → IsSearched c (compare_search object) old new (Ok found) → Compares c controls object name value old new (compare_result found name value)
   compare_unasked : new ≡ old → Compares c controls object name value old new (result_of 80)
-  compare_starved : (answer : Result Found NoMemory) → IsSearched c (compare_search object) old new answer → Compares c controls object name value old new (result_of 80)
+  compare_asked : (answer : Result Found NoMemory) (result : LdapResult) → has_critical controls ≡ false → is_empty object ≡ false
+      → IsSearched c (compare_search object) old new answer → IsComparedBy answer name value result → Compares c controls object name value old new result
 
 -- ---- one request
 

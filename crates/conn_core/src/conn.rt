@@ -154,7 +154,7 @@ impl Conn {
                 name,
                 value,
             } => {
-                let (name, value) = (name.as_slice(), value.as_slice());
+                let (object, name, value) = (object.as_slice(), name.as_slice(), value.as_slice());
                 let told = serve_compare(alloc, node, controls, object, name, value);
                 Ok(only(alloc, told))
             }
@@ -184,8 +184,7 @@ impl Conn {
         ensures ok { OnOk result (self.new ≡ record self.old { replies = self.old.replies ++ map (entry_bytes id) entries }) }
         ensures err { OnErr result (JoinsPart (map (entry_bytes id) entries) self.old self.new) }
     {
-        let mut left = entries.into_vec().into_iter();
-        while let Some(entry) = left.next() {
+        for entry in entries.into_vec() {
             if let Err(NoMemory) = self.send_entry(alloc, id, entry) {
                 return Err(NoMemory);
             }

@@ -1,9 +1,11 @@
 //! Searches and compares.
 
-ghost use Rattle.std.specs.Prelude.{◌≡◌, ◌⊎◌, ◌∷◌, [], codes, IfOk};
-ghost use Rattle.ldap_rules.specs.Case.{result_of};
+ghost use Rattle.std.specs.Prelude.{◌≡◌, ◌∷◌, [], codes, Result, IfOk};
+ghost use Rattle.repl_data.specs.declared.items.NoMemory.{NoMemory};
+ghost use Rattle.repl_data.specs.Check.{is_empty};
+ghost use Rattle.search_core.specs.declared.found.Found.{Found};
 ghost use Rattle.node_core.specs.Calls.{AreSame};
-ghost use Rattle.conn_core.specs.Serving.{has_critical, Searches, Compares, compare_search, compare_result};
+ghost use Rattle.conn_core.specs.Serving.{has_critical, IsSearched, or_other, Searches, Compares, compare_search, compare_result, IsComparedBy};
 
 use crate::answer::only;
 use crate::reply::result_of;
@@ -18,6 +20,25 @@ fn has_critical(controls: &[Control]) -> bool
     ensures { result ≡ has_critical controls.now }
 {
     controls.iter().any(|control| control.critical)
+}
+
+fn has_nothing(object: &[u8]) -> bool
+    ensures { result ≡ is_empty object.now }
+{
+    match object.first() {
+        Some(_) => false,
+        None => true,
+    }
+}
+
+/// What was found, or `other` where memory was wanting.
+fn or_other(alloc: Global, answer: Result<Found, NoMemory>) -> Found
+    ensures { result ≡ or_other answer }
+{
+    match answer {
+        Ok(found) => found,
+        Err(_short) => only(alloc, result_of(alloc, Code::OTHER)),
+    }
 }
 
 /// A search (RFC 4511, section 4.5): a critical control is refused, since none is known. `other` where memory is
@@ -39,10 +60,7 @@ pub(crate) fn serve_search<N: NodeCalls>(
             result_of(alloc, Code::UNAVAILABLE_CRITICAL_EXTENSION),
         );
     }
-    match node.search(alloc, request) {
-        Ok(found) => found,
-        Err(_short) => only(alloc, result_of(alloc, Code::OTHER)),
-    }
+    or_other(alloc, node.search(alloc, request))
 }
 
 /// All attributes: those of users and the operational ones.
@@ -94,14 +112,38 @@ fn compare_result(
     }
 }
 
-/// The same, or `other` where memory is wanting.
-fn compare_told(alloc: Global, found: Found, name: &[u8], value: &[u8]) -> LdapResult
-    ensures { (result ≡ compare_result found name.now value.now) ⊎ (result ≡ result_of 80) }
+/// The same by what its search answered, or `other` where memory is wanting.
+fn compare_told(
+    alloc: Global,
+    answer: Result<Found, NoMemory>,
+    name: &[u8],
+    value: &[u8],
+) -> LdapResult
+    ensures { IsComparedBy answer name.now value.now result }
 {
+    let Ok(found) = answer else {
+        return result_of(alloc, Code::OTHER);
+    };
     match compare_result(alloc, found, name, value) {
         Ok(told) => told,
         Err(_short) => result_of(alloc, Code::OTHER),
     }
+}
+
+/// The result of a compare, by one search.
+fn compare_by<N: NodeCalls>(
+    alloc: Global,
+    node: &mut N,
+    request: &SearchRequest,
+    name: &[u8],
+    value: &[u8],
+) -> LdapResult
+    ensures searched { (answer : Result Found NoMemory) × IsSearched N.reach request.now node.old node.new answer × IsComparedBy answer name.now value.now result }
+    ensures open { AreSame (N.is_open node.old) (N.is_open node.new) }
+    ensures committed { AreSame (N.is_committed node.old) (N.is_committed node.new) }
+    ensures life { (N.reach.node node.new).life ≡ (N.reach.node node.old).life }
+{
+    compare_told(alloc, node.search(alloc, request), name, value)
 }
 
 /// A compare (RFC 4511, section 4.10), by one search: a critical control is refused, since none is known, and no entry
@@ -110,7 +152,7 @@ pub(crate) fn serve_compare<N: NodeCalls>(
     alloc: Global,
     node: &mut N,
     controls: &[Control],
-    object: &Bytes,
+    object: &[u8],
     name: &[u8],
     value: &[u8],
 ) -> LdapResult
@@ -122,14 +164,11 @@ pub(crate) fn serve_compare<N: NodeCalls>(
     if has_critical(controls) {
         return result_of(alloc, Code::UNAVAILABLE_CRITICAL_EXTENSION);
     }
-    if object.is_empty() {
+    if has_nothing(object) {
         return result_of(alloc, Code::NO_SUCH_OBJECT);
     }
-    let Ok(request) = compare_search(alloc, object.as_slice()) else {
+    let Ok(request) = compare_search(alloc, object) else {
         return result_of(alloc, Code::OTHER);
     };
-    match node.search(alloc, &request) {
-        Ok(found) => compare_told(alloc, found, name, value),
-        Err(_short) => result_of(alloc, Code::OTHER),
-    }
+    compare_by(alloc, node, &request, name, value)
 }

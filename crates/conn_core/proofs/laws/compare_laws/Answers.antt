@@ -2,4 +2,4 @@ use Rattle.conn_core.proofs.Comparing.{compares_by_rules}
 use Rattle.conn_core.proofs.laws.compare_laws.Goals as goal
 
 pub returns : goal.returns
-returns c = compares_by_rules
+returns c = record { rules = compares_by_rules }

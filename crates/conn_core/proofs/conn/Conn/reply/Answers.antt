@@ -1,7 +1,7 @@
 use Rattle.std.proofs.Common.{sym, ap, map, Option}
 use Rattle.ldap_types.specs.declared.reply.ReplyOp.{ReplyOp}
 use Rattle.conn_core.specs.Serving.{entry_bytes, sent, reply_to}
-use Rattle.conn_core.proofs.Carrying.{join_none, join_response, part_more, part_first}
+use Rattle.conn_core.proofs.Joined.{join_none, join_response, part_more, part_first}
 use Rattle.conn_core.proofs.conn.Conn.reply.Goals as goal
 
 pub returns-in-Err-clause-err : goal.returns-in-Err-clause-err
