@@ -10,6 +10,9 @@ use Rattle.search_core.specs.declared.found.Found.{Found}
 use Rattle.node_core.specs.Node.{Node}
 use Rattle.conn_core.specs.Serving.{Reach, only, has_critical, IsSearched, or_other, Searches, search_refused, search_answered, compare_search, IsComparedBy, Compares, compare_refused, compare_nothing, compare_unasked, compare_asked}
 
+pub compared_so : (answer told : Result Found NoMemory) (name value : List ℕ) (result : LdapResult) → answer ≡ told → IsComparedBy told name value result → IsComparedBy answer name value result
+compared_so answer told name value result e h = subst (λ (x : Result Found NoMemory). IsComparedBy x name value result) (sym e) h
+
 module _ {N : Type 0} (c : Reach N) where
   -- a search leaves the life of the node
   pub searched_life : (request : SearchRequest) (old new : N) (answer : Result Found NoMemory) → IsSearched c request old new answer → (c.node new).life ≡ (c.node old).life

@@ -121,11 +121,11 @@ fn compare_told(
 ) -> LdapResult
     ensures { IsComparedBy answer name.now value.now result }
 {
-    let Ok(found) = answer else {
-        return result_of(alloc, Code::OTHER);
-    };
-    match compare_result(alloc, found, name, value) {
-        Ok(told) => told,
+    match answer {
+        Ok(found) => match compare_result(alloc, found, name, value) {
+            Ok(told) => told,
+            Err(_short) => result_of(alloc, Code::OTHER),
+        },
         Err(_short) => result_of(alloc, Code::OTHER),
     }
 }
