@@ -13,5 +13,5 @@ pub mod Taking
 pub mod Joining
 pub mod Named
 pub mod Comparing
-pub mod Looking
+pub mod Searched
 pub mod Joined

@@ -1,4 +1,4 @@
-use Rattle.conn_core.proofs.Looking.{searched_life}
+use Rattle.conn_core.proofs.Searched.{searched_life}
 use Rattle.conn_core.proofs.looking.compare_by.Goals as goal
 
 pub returns-clause-searched : goal.returns-clause-searched

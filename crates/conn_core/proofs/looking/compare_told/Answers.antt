@@ -1,5 +1,5 @@
 use Rattle.std.proofs.Common.{sym, inl, inr}
-use Rattle.conn_core.proofs.Looking.{compared_so}
+use Rattle.conn_core.proofs.Searched.{compared_so}
 use Rattle.conn_core.proofs.looking.compare_told.Goals as goal
 
 pub returns-in-Ok-compare_result : goal.returns-in-Ok-compare_result

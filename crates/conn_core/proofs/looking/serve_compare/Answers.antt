@@ -1,5 +1,5 @@
 use Rattle.std.proofs.Common.{◌∙◌, sym}
-use Rattle.conn_core.proofs.Looking.{compares_critical, compares_nothing, compares_unasked, compares_by}
+use Rattle.conn_core.proofs.Searched.{compares_critical, compares_nothing, compares_unasked, compares_by}
 use Rattle.conn_core.proofs.looking.serve_compare.Goals as goal
 
 pub returns-then-has_critical-clause-served : goal.returns-then-has_critical-clause-served

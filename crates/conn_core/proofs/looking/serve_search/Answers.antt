@@ -1,5 +1,5 @@
 use Rattle.std.proofs.Common.{◌∙◌, sym}
-use Rattle.conn_core.proofs.Looking.{searched_life, by_refusal, by_search}
+use Rattle.conn_core.proofs.Searched.{searched_life, by_refusal, by_search}
 use Rattle.conn_core.proofs.looking.serve_search.Goals as goal
 
 pub returns-then-has_critical-clause-served : goal.returns-then-has_critical-clause-served
