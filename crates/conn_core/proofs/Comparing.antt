@@ -28,7 +28,6 @@ use Rattle.filter_truth.specs.Three.{is_yes}
 use Rattle.filter_truth.specs.Truth.{shows}
 use Rattle.view_walk.specs.Tree.{is_present}
 use Rattle.search_core.specs.declared.found.Found.{Found}
-use Rattle.search_core.specs.declared.found.Hits.{Hits}
 use Rattle.search_core.specs.declared.scope.Scope.TheVariants.{Base}
 use Rattle.search_core.specs.Tree.{IsTree}
 use Rattle.search_core.specs.Hits.{is_meant, is_match}
@@ -129,14 +128,11 @@ module _ (v : DirectoryView) (tree : IsTree v) (vector : List (List ℕ)) (objec
       ap (λ (b : Bool). compare_result (found_of (cond b (dead_hits v vector asked Base rdns) (present_hits v asked Base rdns))) name value) (and_asks [])
       ∙ by_entry rdns (entry_at v rdns) refl
 
-  abbrev hits_named : Dn → Result Hits LdapResult
-  hits_named dn = cond (is_root dn.rdns Base) (Ok (root_hits v asked)) (within (rdns_above (dn_in v.suffix) dn) >>= λ rdns. hits_below v vector asked Base rdns)
-
   no_root : (rdns : List Rdn) → has_one rdns → is_root rdns Base ≡ false
   no_root [] h = let f : true ≡ false = h in absurd cc
   no_root (r ∷ rs) h = refl
 
-  by_name : (n : Result Dn DnFault) → is_empty object ≡ false → dn_in object ≡ n → compare_result (found_of (read_object n >>= λ dn. hits_named dn)) name value
+  by_name : (n : Result Dn DnFault) → is_empty object ≡ false → dn_in object ≡ n → compare_result (found_of (read_object n >>= λ dn. cond (is_root dn.rdns Base) (Ok (root_hits v asked)) (within (rdns_above (dn_in v.suffix) dn) >>= λ rdns. hits_below v vector asked Base rdns))) name value
       ≡ either (read_object n >>= λ dn. within (rdns_above (dn_in v.suffix) dn) >>= λ rdns. entry_at v rdns >>= λ u. compared (keys_in (shown_at v u)) name value)
   by_name (Err x) some e = refl
   by_name (Ok dn) some e =
