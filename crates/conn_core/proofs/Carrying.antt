@@ -1,19 +1,17 @@
 -- Requests that are carried out one after the other.
-use Rattle.std.proofs.Common.{◌≡◌, ℕ, ◌+◌, ◌≤◌, false, List, [], ◌∷◌, ◌++◌, length, drop, Option, Some, None, Ok, Err, refl, sym, ap, subst, ◌∙◌, append_assoc, append-nil, arith}
+use Rattle.std.proofs.Common.{◌≡◌, ℕ, ◌+◌, false, List, [], ◌∷◌, ◌++◌, drop, Ok, Err, refl, sym, ap, subst, ◌∙◌, append_assoc, append-nil}
 use Rattle.ldap_types.specs.declared.request.Request.{Request}
 use Rattle.ldap_types.specs.declared.request.Op.{Op}
-use Rattle.ldap_types.specs.declared.reply.LdapResult.{LdapResult}
-use Rattle.ldap_types.specs.declared.reply.ReplyOp.{ReplyOp}
 use Rattle.ldap_types.specs.declared.reply.Identity.{Identity}
-use Rattle.conn_core.specs.Stream.{first_request, is_unbind, EndsSo}
-use Rattle.conn_core.specs.Serving.{Reach, Session, Serves, IsServed, sent, reply_to, count_starved}
+use Rattle.conn_core.specs.Stream.{first_request, is_unbind, BeginsWith, EndsSo}
+use Rattle.search_core.specs.declared.found.Found.{Found}
+use Rattle.conn_core.specs.Serving.{Reach, Session, Serves, IsServed, only, replies_to, count_starved}
 use Rattle.node_core.specs.Answers.{used_up}
-use Rattle.ldap_replies.specs.Form.{reply_bytes}
 use Rattle.io_edge.specs.declared.machine.Fed.{Fed}
 use Rattle.io_edge.specs.declared.machine.Fed.TheVariants.{Running}
 use Rattle.ber_core.specs.Window.{More}
 use Rattle.conn_core.specs.declared.conn.Conn.{Conn}
-use Rattle.conn_core.specs.Feeding.{session, Carries, CarriesPart, IsCut, StillWait, Feeds, notice_of, held_of, is_end}
+use Rattle.conn_core.specs.Feeding.{session, Carries, CarriesPart, none_missing, IsCut, JoinsPart, StillWait, Feeds, notice_of, held_of, is_end}
 use Rattle.std.proofs.lemmas.List.{drop-drop}
 use Rattle.conn_core.proofs.Streams.{begins_next}
 
@@ -29,17 +27,12 @@ carries_next c now bytes r size s m left t is un served k = record {
 
 -- ---- one request
 
--- the state behind a request with this result
-abbrev pub behind : {N : Type 0} → Session N → N → Identity → LdapResult → Request → Session N
-behind s node bound told r = record { node = node; bound = bound; replies = s.replies ++ sent r.id (reply_to r.op told); starved = count_starved told s.starved }
+-- the state behind a request with this answer
+abbrev pub behind : {N : Type 0} → Session N → N → Identity → Found → Request → Session N
+behind s node bound told r = record { node = node; bound = bound; replies = s.replies ++ replies_to r.id r.op told; starved = count_starved told.result s.starved }
 
-pub served_so : {N : Type 0} (c : Reach N) (now : ℕ) (r : Request) (s : Session N) (node : N) (bound : Identity) (told : LdapResult) → Serves c now s.bound r s.node node bound told r.op → IsServed c now r s (behind s node bound told r)
-served_so c now r s node bound told h = record { result = told; served = h; replied = refl; counted = refl }
-
--- at most one reply
-pub sent_one : (id : ℕ) (op : Option ReplyOp) → length (sent id op) ≤ 1
-sent_one id None = omega arith
-sent_one id (Some op) = omega arith
+pub served_so : {N : Type 0} (c : Reach N) (now : ℕ) (r : Request) (s : Session N) (node : N) (bound : Identity) (told : Found) → Serves c now s.bound r s.node node bound told r.op → IsServed c now r s (behind s node bound told r)
+served_so c now r s node bound told h = record { answer = told; served = h; replied = refl; counted = refl }
 
 -- ---- the replies that waited
 
@@ -55,75 +48,64 @@ still_bound old new e = still old.replies new.replies (ap (λ (x : Conn). x.repl
 -- ---- how a request leaves a connection
 
 -- memory was wanting for its result's text
-pub cut_answer : {N : Type 0} (c : Reach N) (now : ℕ) (r : Request) (old new : Conn) (node after : N) (told : LdapResult) → Serves c now old.bound r node after new.bound told r.op → told ≡ used_up → new ≡ record old { bound = new.bound }
-    → (last : Session N) × IsServed c now r (session old node) last × IsCut last (session new after)
+pub cut_answer : {N : Type 0} (c : Reach N) (now : ℕ) (r : Request) (old new : Conn) (node after : N) (told : Found) → Serves c now old.bound r node after new.bound told r.op → told ≡ only used_up → new ≡ record old { bound = new.bound }
+    → (last : Session N) × IsServed c now r (session old node) last × IsCut (session old node) last (session new after)
 cut_answer c now r old new node after told h used same = (
   behind (session old node) after new.bound told r,
   served_so c now r (session old node) after new.bound told h,
   record {
-    missing = sent r.id (reply_to r.op told);
-    replies = ap (λ (x : List (List ℕ)). x ++ sent r.id (reply_to r.op told)) (sym (ap (λ (x : Conn). x.replies) same));
-    last_alone = sent_one r.id (reply_to r.op told);
+    missing = replies_to r.id r.op told;
+    replies = ap (λ (x : List (List ℕ)). x ++ replies_to r.id r.op told) (sym (ap (λ (x : Conn). x.replies) same));
+    kept = still_bound old new same;
     same_node = refl;
     same_bound = refl;
-    same_count = ap (λ (x : Conn). x.starved) same ∙ sym (ap (λ (x : LdapResult). count_starved x old.starved) used);
+    same_count = ap (λ (x : Conn). x.starved) same ∙ sym (ap (λ (x : Found). count_starved x.result old.starved) used);
   },
 )
 
--- it has no reply
-pub left_silent : {N : Type 0} (c : Reach N) (now : ℕ) (r : Request) (old new : Conn) (node after : N) (told : LdapResult) (count : ℕ) → Serves c now old.bound r node after new.bound told r.op → new ≡ record old { bound = new.bound } → count ≡ count_starved told new.starved → reply_to r.op told ≡ None
-    → (last : Session N) × IsServed c now r (session old node) last × (session (record new { starved = count }) after ≡ last)
-left_silent c now r old new node after told count h same counted none =
-    let one : new.starved ≡ old.starved = ap (λ (x : Conn). x.starved) same in
-    let two : new.replies ≡ old.replies = ap (λ (x : Conn). x.replies) same in (
-      session (record new { starved = count }) after,
-      record {
-        result = told;
-        served = h;
-        replied = two ∙ sym (ap (λ (x : List (List ℕ)). old.replies ++ x) (ap (λ (x : Option ReplyOp). sent r.id x) none) ∙ append-nil old.replies);
-        counted = counted ∙ ap (λ (n : ℕ). count_starved told n) one;
-      },
-      refl,
-    )
-
--- its reply joins those that wait
-pub left_replied : {N : Type 0} (c : Reach N) (now : ℕ) (r : Request) (old new sent_on : Conn) (node after : N) (told : LdapResult) (op : ReplyOp) (count : ℕ) → Serves c now old.bound r node after new.bound told r.op → new ≡ record old { bound = new.bound } → count ≡ count_starved told new.starved → reply_to r.op told ≡ Some op
-    → sent_on ≡ record new { starved = count; replies = new.replies ++ reply_bytes (record { id = r.id; op = op }) ∷ [] }
+-- its replies join those that wait
+pub left_replied : {N : Type 0} (c : Reach N) (now : ℕ) (r : Request) (old new sent_on : Conn) (node after : N) (told : Found) (count : ℕ) → Serves c now old.bound r node after new.bound told r.op → new ≡ record old { bound = new.bound } → count ≡ count_starved told.result new.starved
+    → sent_on ≡ record new { starved = count; replies = new.replies ++ replies_to r.id r.op told }
     → (last : Session N) × IsServed c now r (session old node) last × (session sent_on after ≡ last)
-left_replied c now r old new sent_on node after told op count h same counted some is =
+left_replied c now r old new sent_on node after told count h same counted is =
     let one : new.starved ≡ old.starved = ap (λ (x : Conn). x.starved) same in
     let two : new.replies ≡ old.replies = ap (λ (x : Conn). x.replies) same in
-    let last : Session _ = record { node = after; bound = new.bound; replies = new.replies ++ reply_bytes (record { id = r.id; op = op }) ∷ []; starved = count } in (
+    let last : Session _ = record { node = after; bound = new.bound; replies = new.replies ++ replies_to r.id r.op told; starved = count } in (
       last,
       record {
-        result = told;
+        answer = told;
         served = h;
-        replied = ap (λ (x : List (List ℕ)). x ++ reply_bytes (record { id = r.id; op = op }) ∷ []) two ∙ sym (ap (λ (x : Option ReplyOp). old.replies ++ sent r.id x) some);
-        counted = counted ∙ ap (λ (n : ℕ). count_starved told n) one;
+        replied = ap (λ (x : List (List ℕ)). x ++ replies_to r.id r.op told) two;
+        counted = counted ∙ ap (λ (n : ℕ). count_starved told.result n) one;
       },
       ap (λ (x : Conn). session x after) is,
     )
 
--- memory was wanting for its reply
-pub cut_reply : {N : Type 0} (c : Reach N) (now : ℕ) (r : Request) (old new sent_on : Conn) (node after : N) (told : LdapResult) (op : ReplyOp) (count : ℕ) → Serves c now old.bound r node after new.bound told r.op → new ≡ record old { bound = new.bound } → count ≡ count_starved told new.starved → reply_to r.op told ≡ Some op
-    → sent_on ≡ record new { starved = count }
-    → (last : Session N) × IsServed c now r (session old node) last × IsCut last (session sent_on after)
-cut_reply c now r old new sent_on node after told op count h same counted some is =
-    let whole = left_replied c now r old new (record new { starved = count; replies = new.replies ++ reply_bytes (record { id = r.id; op = op }) ∷ [] }) node after told op count h same counted some refl in (
-      session (record new { starved = count; replies = new.replies ++ reply_bytes (record { id = r.id; op = op }) ∷ [] }) after,
+-- memory was wanting for one of its replies
+pub cut_reply : {N : Type 0} (c : Reach N) (now : ℕ) (r : Request) (old new sent_on : Conn) (node after : N) (told : Found) (count : ℕ) → Serves c now old.bound r node after new.bound told r.op → new ≡ record old { bound = new.bound } → count ≡ count_starved told.result new.starved
+    → JoinsPart (replies_to r.id r.op told) (record new { starved = count }) sent_on
+    → (last : Session N) × IsServed c now r (session old node) last × IsCut (session old node) last (session sent_on after)
+cut_reply c now r old new sent_on node after told count h same counted p =
+    let whole = left_replied c now r old new (record new { starved = count; replies = new.replies ++ replies_to r.id r.op told }) node after told count h same counted refl in
+    let here : sent_on.replies ≡ new.replies ++ p.added = ap (λ (x : Conn). x.replies) p.state in (
+      session (record new { starved = count; replies = new.replies ++ replies_to r.id r.op told }) after,
       subst (λ (x : Session _). IsServed c now r (session old node) x) (sym whole.2) whole.1,
       record {
-        missing = reply_bytes (record { id = r.id; op = op }) ∷ [];
-        replies = ap (λ (x : List (List ℕ)). x ++ reply_bytes (record { id = r.id; op = op }) ∷ []) (sym (ap (λ (x : Conn). x.replies) is));
-        last_alone = omega arith;
+        missing = p.missing;
+        replies = ap (λ (x : List (List ℕ)). new.replies ++ x) p.all ∙ sym (append_assoc new.replies p.added p.missing) ∙ ap (λ (x : List (List ℕ)). x ++ p.missing) (sym here);
+        kept = still_more old.replies new.replies sent_on.replies (still_bound old new same) (p.added, here);
         same_node = refl;
-        same_bound = ap (λ (x : Conn). x.bound) is;
-        same_count = ap (λ (x : Conn). x.starved) is;
+        same_bound = ap (λ (x : Conn). x.bound) p.state;
+        same_count = ap (λ (x : Conn). x.starved) p.state;
       },
     )
 
-pub as_told : {N : Type 0} (c : Reach N) (now : ℕ) (bound : Identity) (r : Request) (old new : N) (after : Identity) (told x : LdapResult) (op : Op) → Serves c now bound r old new after x op → told ≡ x → Serves c now bound r old new after told op
-as_told c now bound r old new after told x op h e = subst (λ (y : LdapResult). Serves c now bound r old new after y op) (sym e) h
+-- what waited before a request still does behind it
+pub part_waits : (all : List (List ℕ)) (old new : Conn) → JoinsPart all old new → StillWait old.replies new.replies
+part_waits all old new p = (p.added, ap (λ (x : Conn). x.replies) p.state)
+
+pub as_told : {N : Type 0} (c : Reach N) (now : ℕ) (bound : Identity) (r : Request) (old new : N) (after : Identity) (told x : Found) (op : Op) → Serves c now bound r old new after x op → told ≡ x → Serves c now bound r old new after told op
+as_told c now bound r old new after told x op h e = subst (λ (y : Found). Serves c now bound r old new after y op) (sym e) h
 
 -- ---- along a stream
 
@@ -131,9 +113,9 @@ pub carried_on : {N : Type 0} (c : Reach N) (now : ℕ) (bytes : List ℕ) (r : 
     → (left : List ℕ) (t : Session N) → Carries c now (drop size bytes) m left t → Carries c now bytes s left t
 carried_on c now bytes r size s last m is un served same left t k = carries_next c now bytes r size s m left t is un (subst (λ (x : Session _). IsServed c now r s x) (sym same) served) k
 
--- nothing is missing
-pub cut_none : {N : Type 0} (s : Session N) → IsCut s s
-cut_none s = record { missing = []; replies = sym (append-nil s.replies); last_alone = omega arith; same_node = refl; same_bound = refl; same_count = refl }
+-- one request stands at the front
+pub begins_one : (bytes : List ℕ) (r : Request) (size : ℕ) → first_request bytes ≡ Ok (r, size) → is_unbind r.op ≡ false → BeginsWith bytes (r ∷ []) (drop size bytes)
+begins_one bytes r size is un = begins_next bytes r size [] (drop size bytes) is un refl
 
 pub further : {N : Type 0} (c : Reach N) (now : ℕ) (stream : List ℕ) (at size : ℕ) (m : Session N) (left : List ℕ) (t : Session N) → Carries c now (drop (at + size) stream) m left t → Carries c now (drop size (drop at stream)) m left t
 further c now stream at size m left t k = subst (λ (b : List ℕ). Carries c now b m left t) (sym (drop-drop size at stream)) k
@@ -141,20 +123,26 @@ further c now stream at size m left t k = subst (λ (b : List ℕ). Carries c no
 -- ---- a feed
 
 pub part_none : {N : Type 0} (c : Reach N) (now : ℕ) (bytes : List ℕ) (s : Session N) → CarriesPart c now bytes s s
-part_none c now bytes s = record { left = bytes; last = s; carried = carries_none c now bytes s; cut = cut_none s }
+part_none c now bytes s = none_missing bytes (carries_none c now bytes s)
+
+made : {N : Type 0} → N → Identity → List (List ℕ) → ℕ → Session N
+made n bound replies starved = record { node = n; bound = bound; replies = replies; starved = starved }
+
+same_state : {N : Type 0} (a b : Conn) (n : N) → a.bound ≡ b.bound → a.starved ≡ b.starved → a.replies ≡ b.replies → session a n ≡ session b n
+unfolding made
+same_state a b n one two three = ap (λ (x : Identity). made n x a.replies a.starved) one ∙ ap (λ (x : ℕ). made n b.bound a.replies x) two ∙ ap (λ (x : List (List ℕ)). made n b.bound x b.starved) three
+
+-- the same bytes
+pub part_on : {N : Type 0} (c : Reach N) (now : ℕ) (bytes stream : List ℕ) (old new : Session N) → stream ≡ bytes → CarriesPart c now stream old new → CarriesPart c now bytes old new
+part_on c now bytes stream old new e k = subst (λ (x : List ℕ). CarriesPart c now x old new) e k
 
 -- the same state, where only what is held differs
 pub part_kept : {N : Type 0} (c : Reach N) (now : ℕ) (bytes stream : List ℕ) (s : Session N) (left : List ℕ) (a b : Conn) (n : N) → stream ≡ bytes → Carries c now stream s left (session b n)
     → (a.bound ≡ b.bound) × (a.starved ≡ b.starved) → a.replies ≡ b.replies → CarriesPart c now bytes s (session a n)
-part_kept c now bytes stream s left a b n e k others replies = record {
-  left = left;
-  last = session b n;
-  carried = subst (λ (x : List ℕ). Carries c now x s left (session b n)) e k;
-  cut = record { missing = []; replies = sym (append-nil a.replies ∙ replies); last_alone = omega arith; same_node = refl; same_bound = others.0; same_count = others.1 };
-}
-
-made : {N : Type 0} → N → Identity → List (List ℕ) → ℕ → Session N
-made n bound replies starved = record { node = n; bound = bound; replies = replies; starved = starved }
+part_kept c now bytes stream s left a b n e k others replies =
+    none_missing left
+    (subst (λ (x : Session _). Carries c now bytes s left x) (sym (same_state a b n others.0 others.1 replies))
+    (subst (λ (x : List ℕ). Carries c now x s left (session b n)) e k))
 
 state_is : {N : Type 0} (a b : Conn) (n : N) (more : List (List ℕ)) → a.bound ≡ b.bound → a.starved ≡ b.starved → a.replies ≡ b.replies ++ more → session a n ≡ record (session b n) { replies = b.replies ++ more }
 unfolding made

@@ -11,3 +11,7 @@ pub mod Alone
 pub mod Machines
 pub mod Taking
 pub mod Joining
+pub mod Named
+pub mod Comparing
+pub mod Searched
+pub mod Joined

@@ -1,5 +1,5 @@
 -- What a feed of a connection comes to.
-use Rattle.std.specs.Prelude.{◌≡◌, ◌≤◌, ℕ, Bool, true, false, List, [], ◌∷◌, ◌++◌, length, Result, Ok, Err}
+use Rattle.std.specs.Prelude.{◌≡◌, ℕ, Bool, true, false, List, [], ◌∷◌, ◌++◌, Result, Ok, Err}
 use Rattle.std.specs.List.{concat}
 use Rattle.repl_data.specs.declared.items.NoMemory.{NoMemory}
 use Rattle.ldap_types.specs.declared.request.Request.{Request}
@@ -8,7 +8,7 @@ use Rattle.io_edge.specs.declared.machine.Fed.{Fed}
 use Rattle.io_edge.specs.declared.machine.Fed.TheVariants.{Running, BadBytes}
 use Rattle.conn_core.specs.declared.conn.Conn.{Conn}
 use Rattle.conn_core.specs.Stream.{BeginsWith, EndsSo}
-use Rattle.conn_core.specs.Serving.{Reach, Session, AreServed, notice}
+use Rattle.conn_core.specs.Serving.{Reach, Session, IsServed, AreServed, notice}
 
 -- a connection that was not fed yet
 abbrev pub new_conn : Conn
@@ -67,30 +67,37 @@ pub record JoinsFeeds {N : Type 0} (c : Reach N) : Type 0 where
 
 -- ---- want of memory
 
--- The state is this one, where the last reply may be missing.
-pub record IsCut {N : Type 0} (whole cut : Session N) : Type 0 where
-  pub missing : List (List ℕ)
-  pub replies : whole.replies ≡ cut.replies ++ missing
-  pub last_alone : length missing ≤ 1
-  pub same_node : cut.node ≡ whole.node
-  pub same_bound : cut.bound ≡ whole.bound
-  pub same_count : cut.starved ≡ whole.starved
-
--- The first requests are carried out, each whole, and the reply of the last one may be missing.
-pub record CarriesPart {N : Type 0} (c : Reach N) (now : ℕ) (bytes : List ℕ) (old new : Session N) : Type 0 where
-  pub left : List ℕ
-  pub last : Session N
-  pub carried : Carries c now bytes old left last
-  pub cut : IsCut last new
-
 -- The replies that waited still do, in front of what was added.
 abbrev pub StillWait : List (List ℕ) → List (List ℕ) → Type 0
 StillWait old new = (added : List (List ℕ)) × (new ≡ old ++ added)
 
+-- The state is the one behind a request, where some of its replies, from the last one back, may be missing; those from before
+-- it are there.
+pub record IsCut {N : Type 0} (before whole cut : Session N) : Type 0 where
+  pub missing : List (List ℕ)
+  pub replies : whole.replies ≡ cut.replies ++ missing
+  pub kept : StillWait before.replies cut.replies
+  pub same_node : cut.node ≡ whole.node
+  pub same_bound : cut.bound ≡ whole.bound
+  pub same_count : cut.starved ≡ whole.starved
+
+-- The first requests are carried out, each whole, and replies to the last one may be missing.
+pub data CarriesPart {N : Type 0} (c : Reach N) (now : ℕ) (bytes : List ℕ) (old new : Session N) : Type 0 where
+  none_missing : (left : List ℕ) → Carries c now bytes old left new → CarriesPart c now bytes old new
+  some_missing : (rest left : List ℕ) (request : Request) (before last : Session N) → Carries c now bytes old rest before → BeginsWith rest (request ∷ []) left
+      → IsServed c now request before last → IsCut before last new → CarriesPart c now bytes old new
+
 -- whole, or, where memory was wanting, so
-abbrev pub Leaves : {N : Type 0} → Result (Unit {0}) NoMemory → Session N → Session N → Type 0
-Leaves (Ok u) whole s = s ≡ whole
-Leaves (Err short) whole s = IsCut whole s
+abbrev pub Leaves : {N : Type 0} → Result (Unit {0}) NoMemory → Session N → Session N → Session N → Type 0
+Leaves (Ok u) before whole s = s ≡ whole
+Leaves (Err short) before whole s = IsCut before whole s
+
+-- some of these replies joined those that wait, from the first one on, and nothing else changed
+pub record JoinsPart (replies : List (List ℕ)) (old new : Conn) : Type 0 where
+  pub added : List (List ℕ)
+  pub missing : List (List ℕ)
+  pub all : replies ≡ added ++ missing
+  pub state : new ≡ record old { replies = old.replies ++ added }
 
 -- AFTER WANT OF MEMORY the first requests are carried out, and the connection has ended.
 pub record FeedsPart {N : Type 0} (c : Reach N) (now : ℕ) (piece : List ℕ) (old : Conn) (node : N) (new : Conn) (after : N) : Type 0 where

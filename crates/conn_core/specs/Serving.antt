@@ -1,10 +1,19 @@
 -- What a request does, by the calls of a node, and what it is answered.
-use Rattle.std.specs.Prelude.{◌≡◌, ◌⊎◌, ℕ, ◌+◌, ◌-◌, ◌^◌, min, ◌==◌, Bool, true, false, not, ◌||◌, if◌then◌else◌, List, [], ◌∷◌, ◌++◌, Option, Some, None, Result, Ok, Err, codes}
+use Rattle.std.specs.Prelude.{◌≡◌, ◌⊎◌, ℕ, ◌+◌, ◌-◌, ◌^◌, min, ◌==◌, Bool, true, false, not, ◌||◌, if◌then◌else◌, List, [], ◌∷◌, ◌++◌, map, pos, Option, Some, None, Result, Ok, Err, IfOk, codes}
+use Rattle.std.specs.List.{list_any}
 use Rattle.repl_data.specs.declared.csn.Csn.{Csn}
+use Rattle.repl_data.specs.declared.change.Shown.{Shown}
+use Rattle.repl_data.specs.declared.change.ShownEntry.{ShownEntry}
+use Rattle.repl_data.specs.declared.change.Val.{Val}
 use Rattle.repl_data.specs.declared.items.NoMemory.{NoMemory}
+use Rattle.repl_data.specs.Check.{is_empty}
 use Rattle.repl_data.specs.Order.{bytes_eq}
 use Rattle.ldap_types.specs.declared.request.Request.{Request}
 use Rattle.ldap_types.specs.declared.request.BindRequest.{BindRequest}
+use Rattle.ldap_types.specs.declared.request.Control.{Control}
+use Rattle.ldap_types.specs.declared.request.RawAttr.{RawAttr}
+use Rattle.ldap_types.specs.declared.request.SearchRequest.{SearchRequest}
+use Rattle.ldap_types.specs.declared.request.Filter.TheVariants as sought
 use Rattle.ldap_types.specs.declared.request.Op.{Op}
 use Rattle.ldap_types.specs.declared.request.Op.TheVariants as op
 use Rattle.ldap_types.specs.declared.reply.ReplyOp.{ReplyOp}
@@ -17,6 +26,8 @@ use Rattle.conn_core.specs.declared.reply.OpKind.{OpKind}
 use Rattle.conn_core.specs.declared.reply.OpKind.TheVariants as kind
 use Rattle.ldap_rules.specs.Bind.{bind_verdict}
 use Rattle.ldap_rules.specs.Case.{result_of}
+use Rattle.ldap_rules.specs.Compare.{keys_in, compared, is_critical}
+use Rattle.search_core.specs.declared.found.Found.{Found}
 use Rattle.node_core.specs.declared.fault.BeginFault.{BeginFault}
 use Rattle.node_core.specs.declared.fault.BeginFault.TheVariants as begin
 use Rattle.node_core.specs.declared.fault.CommitFault.{CommitFault}
@@ -24,6 +35,7 @@ use Rattle.node_core.specs.declared.fault.CommitFault.TheVariants as commit
 use Rattle.node_core.specs.declared.ticket.Ticket.{Ticket}
 use Rattle.node_core.specs.declared.ticket.Receipt.{Receipt}
 use Rattle.node_core.specs.Answers.{used_up}
+use Rattle.node_core.specs.Searches.{searched}
 use Rattle.node_core.specs.Steps.{judge_view, ended}
 use Rattle.node_core.specs.Calls.{Begins, Commits, CommitCause, is_client_write}
 pub use Rattle.node_core.specs.Calls.{Reach, IsCall}
@@ -44,6 +56,8 @@ is_session oid = bytes_eq oid start_name || bytes_eq oid end_name
 abbrev pub is_answered : Op → Bool
 is_answered (op.Bind b) = true
 is_answered op.Unbind = true
+is_answered (op.Search s) = true
+is_answered (op.Compare object name value) = true
 is_answered (op.Abandon id) = true
 is_answered (op.Extended oid value) = not (is_session oid)
 is_answered _ = false
@@ -88,6 +102,25 @@ abbrev pub sent : ℕ → Option ReplyOp → List (List ℕ)
 sent id None = []
 sent id (Some op) = reply_bytes (record { id = id; op = op }) ∷ []
 
+-- an answer without entries. (The answer to a request is what a search finds: entries, and a result.)
+abbrev pub only : LdapResult → Found
+only result = record { entries = []; result = result }
+
+-- an attribute with its values as they are spelled
+abbrev pub raw_attr : Shown → RawAttr
+raw_attr s = record { name = s.attr.name; vals = map (λ (v : Val). v.spelled) s.vals }
+
+-- the reply that has an entry (RFC 4511, section 4.5.2)
+abbrev pub entry_reply : ShownEntry → ReplyOp
+entry_reply e = reply.Entry e.dn (map raw_attr e.attrs)
+
+abbrev pub entry_bytes : ℕ → ShownEntry → List ℕ
+entry_bytes id e = reply_bytes (record { id = id; op = entry_reply e })
+
+-- THE REPLIES to a request with this id: the entries in their order, and then the response
+abbrev pub replies_to : ℕ → Op → Found → List (List ℕ)
+replies_to id o answer = map (entry_bytes id) answer.entries ++ sent id (reply_to o answer.result)
+
 -- NOTICE OF DISCONNECTION (RFC 4511, section 4.4.1): protocolError, in a reply that nobody asked for
 abbrev pub notice_name : List ℕ
 notice_name = codes "1.3.6.1.4.1.1466.20036"
@@ -99,6 +132,11 @@ notice = reply_bytes (record { id = 0; op = reply.Extended (result_of 2) (Some n
 abbrev pub IsTold : LdapResult → Result LdapResult NoMemory → Type 0
 IsTold told (Ok r) = r ≡ told
 IsTold told (Err short) = told ≡ used_up
+
+-- the same of an answer
+abbrev pub IsAnswered : Found → Result Found NoMemory → Type 0
+IsAnswered told (Ok answer) = answer ≡ told
+IsAnswered told (Err short) = told ≡ only used_up
 
 -- `busy` where too many CSNs are pending, and `unwillingToPerform` where there is none to draw
 abbrev pub begin_result : BeginFault → LdapResult
@@ -142,6 +180,73 @@ pub data IsWritten {N : Type 0} (c : Reach N) (now : ℕ) (bound : Identity) (re
       → IsCommitted c now bound request ticket begun committed (Err (back, fault)) → commit_result fault ≡ Some result
       → IsEnded c back.life back.csn committed new → IsWritten c now bound request old new result
 
+-- ---- searches and compares
+
+abbrev pub has_critical : List Control → Bool
+has_critical controls = list_any is_critical controls
+
+-- one searches: its answer is that of the view and the vector that the call shows, and the node is left as it was met
+pub record IsSearched {N : Type 0} (c : Reach N) (request : SearchRequest) (old new : N) (answer : Result Found NoMemory) : Type 0 where
+  pub call : IsCall c old new
+  pub left : c.node new ≡ c.met old new
+  pub step : IfOk answer (λ (found : Found). found ≡ searched (c.shown old new) request)
+
+-- `other` where memory was wanting
+abbrev pub or_other : Result Found NoMemory → Found
+or_other (Ok found) = found
+or_other (Err short) = only (result_of 80)
+
+-- A SEARCH: a critical control is refused before any call. Else the answer is that of one search.
+pub data Searches {N : Type 0} (c : Reach N) (controls : List Control) (request : SearchRequest) (old new : N) : Found → Type 0 where
+  search_refused : has_critical controls ≡ true → new ≡ old → Searches c controls request old new (only (result_of 12))
+  search_answered : (answer : Result Found NoMemory) → has_critical controls ≡ false → IsSearched c request old new answer → Searches c controls request old new (or_other answer)
+
+-- the search of a compare: of the object alone, with all that it shows
+abbrev pub compare_search : List ℕ → SearchRequest
+compare_search object = record {
+  base = object;
+  scope = pos 0;
+  deref = pos 0;
+  size_limit = 0;
+  time_limit = 0;
+  types_only = false;
+  filter = sought.And [];
+  attrs = codes "*" ∷ codes "+" ∷ [];
+}
+
+abbrev pub either : Result LdapResult LdapResult → LdapResult
+either (Ok result) = result
+either (Err refusal) = refusal
+
+-- the result of a compare by what its search finds: the entry, or why there is none
+abbrev pub compare_by : LdapResult → List ShownEntry → List ℕ → List ℕ → LdapResult
+compare_by refusal [] name value = refusal
+compare_by refusal (e ∷ es) name value = either (compared (keys_in e.attrs) name value)
+
+abbrev pub compare_result : Found → List ℕ → List ℕ → LdapResult
+compare_result found name value = compare_by found.result found.entries name value
+
+-- the whole, by what searches find
+abbrev pub compare_on : (SearchRequest → Found) → List Control → List ℕ → List ℕ → List ℕ → LdapResult
+compare_on find controls object name value =
+    if has_critical controls then result_of 12
+    else if is_empty object then result_of 32
+    else compare_result (find (compare_search object)) name value
+
+-- the result by what a search answered; or `other`, where memory was wanting for the answer or behind it
+abbrev pub IsComparedBy : Result Found NoMemory → List ℕ → List ℕ → LdapResult → Type 0
+IsComparedBy (Ok found) name value result = (result ≡ compare_result found name value) ⊎ (result ≡ result_of 80)
+IsComparedBy (Err short) name value result = result ≡ result_of 80
+
+-- A COMPARE: a critical control is refused before any call, and so is an empty object. Else the result is by one search of the
+-- object, or `other`, where memory was wanting before it.
+pub data Compares {N : Type 0} (c : Reach N) (controls : List Control) (object name value : List ℕ) (old new : N) : LdapResult → Type 0 where
+  compare_refused : has_critical controls ≡ true → new ≡ old → Compares c controls object name value old new (result_of 12)
+  compare_nothing : has_critical controls ≡ false → is_empty object ≡ true → new ≡ old → Compares c controls object name value old new (result_of 32)
+  compare_unasked : new ≡ old → Compares c controls object name value old new (result_of 80)
+  compare_asked : (answer : Result Found NoMemory) (result : LdapResult) → has_critical controls ≡ false → is_empty object ≡ false
+      → IsSearched c (compare_search object) old new answer → IsComparedBy answer name value result → Compares c controls object name value old new result
+
 -- ---- one request
 
 -- whom a bind names, and its result; or, where memory was wanting, nobody
@@ -156,16 +261,18 @@ plain_code (op.Abandon id) = 0
 plain_code (op.Extended oid value) = if is_session oid then 53 else 2
 plain_code _ = 53
 
--- a request that is no bind: a write of a client is written, and nothing else touches the node
+-- a request that is no bind, search or compare: a write of a client is written, and nothing else touches the node
 abbrev pub ServesOther : {N : Type 0} → Reach N → ℕ → Identity → Request → N → N → LdapResult → Type 0
 ServesOther c now bound request old new result =
     ((is_client_write request ≡ true) × IsWritten c now bound request old new result)
     ⊎ ((is_client_write request ≡ false) × (new ≡ old) × (result ≡ result_of (plain_code request.op)))
 
 -- What a request does at this time, on a connection that speaks for `bound`, leaving it to speak for `after`.
-abbrev pub Serves : {N : Type 0} → Reach N → ℕ → Identity → Request → N → N → Identity → LdapResult → Op → Type 0
-Serves c now bound request old new after result (op.Bind b) = (new ≡ old) × Binds b after result
-Serves c now bound request old new after result other = (after ≡ bound) × ServesOther c now bound request old new result
+abbrev pub Serves : {N : Type 0} → Reach N → ℕ → Identity → Request → N → N → Identity → Found → Op → Type 0
+Serves c now bound request old new after answer (op.Bind b) = (new ≡ old) × Binds b after answer.result × (answer.entries ≡ [])
+Serves c now bound request old new after answer (op.Search s) = (after ≡ bound) × Searches c request.controls s old new answer
+Serves c now bound request old new after answer (op.Compare object name value) = (after ≡ bound) × Compares c request.controls object name value old new answer.result × (answer.entries ≡ [])
+Serves c now bound request old new after answer other = (after ≡ bound) × ServesOther c now bound request old new answer.result × (answer.entries ≡ [])
 
 -- one more request that was answered `other`, which comes for want of memory alone; the count stands still at its end
 abbrev pub count_starved : LdapResult → ℕ → ℕ
@@ -181,12 +288,12 @@ pub record Session (N : Type 0) : Type 0 where
   -- how many requests were answered `other`
   pub starved : ℕ
 
--- ONE REQUEST IS CARRIED OUT, and its reply joins those that wait
+-- ONE REQUEST IS CARRIED OUT, and its replies join those that wait
 pub record IsServed {N : Type 0} (c : Reach N) (now : ℕ) (request : Request) (old new : Session N) : Type 0 where
-  pub result : LdapResult
-  pub served : Serves c now old.bound request old.node new.node new.bound result request.op
-  pub replied : new.replies ≡ old.replies ++ sent request.id (reply_to request.op result)
-  pub counted : new.starved ≡ count_starved result old.starved
+  pub answer : Found
+  pub served : Serves c now old.bound request old.node new.node new.bound answer request.op
+  pub replied : new.replies ≡ old.replies ++ replies_to request.id request.op answer
+  pub counted : new.starved ≡ count_starved answer.result old.starved
 
 -- one after the other
 abbrev pub AreServed : {N : Type 0} → Reach N → ℕ → List Request → Session N → Session N → Type 0

@@ -19,6 +19,7 @@ fn is_answered(op: &Op) -> bool
 {
     match op {
         Op::Bind(_) | Op::Unbind | Op::Abandon { .. } => true,
+        Op::Search(_) | Op::Compare { .. } => true,
         Op::Extended { oid, .. } => !is_session(oid.as_slice()),
         _ => false,
     }

@@ -1,17 +1,20 @@
 //! The connection: bytes in, requests carried out, replies that wait.
 
-ghost use Rattle.std.specs.Prelude.{◌≡◌, ◌≢◌, ◌≤◌, ◌↔◌, ◌++◌, ◌∷◌, [], true, false, Ok, List, ℕ, length, drop, IfOk, IsOk, OnOk, OnErr, MatchOption};
+ghost use Rattle.std.specs.Prelude.{◌≡◌, ◌≢◌, ◌≤◌, ◌↔◌, ◌++◌, ◌∷◌, [], true, false, Ok, List, ℕ, length, map, drop, IfOk, IsOk, OnOk, OnErr, MatchOption};
 ghost use Rattle.std.specs.List.{list_all};
 ghost use Rattle.ldap_types.specs.declared.request.Request.{Request};
+ghost use Rattle.search_core.specs.declared.found.Found.{Found};
 ghost use Rattle.ldap_replies.specs.Form.{reply_bytes};
 ghost use Rattle.io_edge.specs.declared.machine.Fed.{Fed};
 ghost use Rattle.node_core.specs.Calls.{AreSame};
 ghost use Rattle.conn_core.specs.Stream.{EndsSo, IsStream};
-ghost use Rattle.conn_core.specs.Serving.{is_built, Serves, Binds, Session, IsServed, IsTold};
-ghost use Rattle.conn_core.specs.Feeding.{new_conn, session, Carries, Feeds, FeedsPart, CarriesPart, StillWait, Leaves, held_of, is_end, notice_of};
+ghost use Rattle.conn_core.specs.Serving.{is_built, entry_bytes, replies_to, Serves, Binds, Session, IsServed, IsAnswered};
+ghost use Rattle.conn_core.specs.Feeding.{new_conn, session, Carries, Feeds, FeedsPart, CarriesPart, StillWait, Leaves, held_of, is_end, notice_of, JoinsPart};
 
+use crate::answer::{entry_reply, only};
 use crate::built::are_built;
 use crate::first::{First, read_first, waits};
+use crate::looking::{serve_compare, serve_search};
 use crate::queue::ReplyQueue;
 use crate::reply::{bytes_of, count_starved, notice, reply_to, result_of};
 use crate::write::serve_other;
@@ -19,7 +22,9 @@ use io_edge::Fed;
 use ldap_rules::judge_bind;
 use ldap_types::{BindRequest, Bytes, Code, Identity, LdapResult, NoMemory, Op, Reply, Request};
 use node_core::NodeCalls;
+use repl_data::{ShownEntry, ShownEntryList};
 use request_wait::Unfinished;
+use search_core::Found;
 use std::alloc::Global;
 use std::mem;
 
@@ -126,23 +131,37 @@ impl Conn {
         }
     }
 
-    /// Does what a request asks for, and gives its result.
+    /// Does what a request asks for, and gives its answer.
     fn answer<N: NodeCalls>(
         &mut self,
         alloc: Global,
         node: &mut N,
         now: u32,
         request: &Request,
-    ) -> Result<LdapResult, NoMemory>
-        ensures served { (told : LdapResult) × Serves N.reach now self.old.bound request.now node.old node.new self.new.bound told request.now.op × IsTold told result }
+    ) -> Result<Found, NoMemory>
+        ensures served { (told : Found) × Serves N.reach now self.old.bound request.now node.old node.new self.new.bound told request.now.op × IsAnswered told result }
         ensures others { self.new ≡ record self.old { bound = self.new.bound } }
         ensures open { AreSame (N.is_open node.old) (N.is_open node.new) }
         ensures committed { AreSame (N.is_committed node.old) (N.is_committed node.new) }
         ensures life { (N.reach.node node.new).life ≡ (N.reach.node node.old).life }
     {
+        let controls = request.controls.as_slice();
         match &request.op {
-            Op::Bind(bind) => Ok(self.bind(alloc, bind)),
-            _ => serve_other(alloc, node, now, self.bound, request),
+            Op::Bind(bind) => Ok(only(alloc, self.bind(alloc, bind))),
+            Op::Search(search) => Ok(serve_search(alloc, node, controls, search)),
+            Op::Compare {
+                object,
+                name,
+                value,
+            } => {
+                let (object, name, value) = (object.as_slice(), name.as_slice(), value.as_slice());
+                let told = serve_compare(alloc, node, controls, object, name, value);
+                Ok(only(alloc, told))
+            }
+            _ => match serve_other(alloc, node, now, self.bound, request) {
+                Ok(told) => Ok(only(alloc, told)),
+                Err(_short) => Err(NoMemory),
+            },
         }
     }
 
@@ -155,7 +174,56 @@ impl Conn {
         self.replies.push(bytes)
     }
 
-    /// Carries out a request. Its reply, where it has one, joins those that wait.
+    /// The entries join the replies that wait, one after the other.
+    fn send_entries(
+        &mut self,
+        alloc: Global,
+        id: u32,
+        entries: ShownEntryList,
+    ) -> Result<(), NoMemory>
+        ensures ok { OnOk result (self.new ≡ record self.old { replies = self.old.replies ++ map (entry_bytes id) entries }) }
+        ensures err { OnErr result (JoinsPart (map (entry_bytes id) entries) self.old self.new) }
+    {
+        for entry in entries.into_vec() {
+            if let Err(NoMemory) = self.send_entry(alloc, id, entry) {
+                return Err(NoMemory);
+            }
+        }
+        Ok(())
+    }
+
+    /// An entry joins the replies that wait.
+    fn send_entry(&mut self, alloc: Global, id: u32, entry: ShownEntry) -> Result<(), NoMemory>
+        ensures ok { OnOk result (self.new ≡ record self.old { replies = self.old.replies ++ entry_bytes id entry ∷ [] }) }
+        ensures err { OnErr result (self.new ≡ self.old) }
+    {
+        let op = entry_reply(alloc, entry)?;
+        self.send(alloc, &Reply { id, op })
+    }
+
+    /// The replies to a request join those that wait: the entries of its answer, and then the response, if it has one.
+    fn reply(&mut self, alloc: Global, request: &Request, answer: Found) -> Result<(), NoMemory>
+        ensures ok { OnOk result (self.new ≡ record self.old { replies = self.old.replies ++ replies_to request.now.id request.now.op answer }) }
+        ensures err { OnErr result (JoinsPart (replies_to request.now.id request.now.op answer) self.old self.new) }
+    {
+        let Found {
+            entries,
+            result: told,
+        } = answer;
+        if let Err(NoMemory) = self.send_entries(alloc, request.id, entries) {
+            return Err(NoMemory);
+        }
+        let Some(op) = reply_to(&request.op, told) else {
+            return Ok(());
+        };
+        let reply = Reply { id: request.id, op };
+        if let Err(NoMemory) = self.send(alloc, &reply) {
+            return Err(NoMemory);
+        }
+        Ok(())
+    }
+
+    /// Carries out a request. Its replies join those that wait.
     fn carry_out<N: NodeCalls>(
         &mut self,
         alloc: Global,
@@ -163,7 +231,7 @@ impl Conn {
         now: u32,
         request: &Request,
     ) -> Result<(), NoMemory>
-        ensures served { (last : Session N) × IsServed N.reach now request.now (session self.old node.old) last × Leaves result last (session self.new node.new) }
+        ensures served { (last : Session N) × IsServed N.reach now request.now (session self.old node.old) last × Leaves result (session self.old node.old) last (session self.new node.new) }
         ensures waiting { StillWait self.old.replies self.new.replies }
         ensures held { self.new.held ≡ self.old.held }
         ensures closed { self.new.is_closed ≡ self.old.is_closed }
@@ -171,15 +239,11 @@ impl Conn {
         ensures committed { AreSame (N.is_committed node.old) (N.is_committed node.new) }
         ensures life { (N.reach.node node.new).life ≡ (N.reach.node node.old).life }
     {
-        let Ok(told) = self.answer(alloc, node, now, request) else {
+        let Ok(answer) = self.answer(alloc, node, now, request) else {
             return Err(NoMemory);
         };
-        self.starved = count_starved(&told, self.starved);
-        let Some(op) = reply_to(&request.op, told) else {
-            return Ok(());
-        };
-        let reply = Reply { id: request.id, op };
-        if let Err(NoMemory) = self.send(alloc, &reply) {
+        self.starved = count_starved(&answer.result, self.starved);
+        if let Err(NoMemory) = self.reply(alloc, request, answer) {
             return Err(NoMemory);
         }
         Ok(())

@@ -1,5 +1,6 @@
 //! What holds of every stream.
 
+ghost use Rattle.conn_core.specs.Comparing.{ComparesByRules};
 ghost use Rattle.conn_core.specs.Feeding.{JoinsFeeds};
 ghost use Rattle.conn_core.specs.Whole.{HasOneStream, MayBeCut};
 
@@ -16,4 +17,9 @@ pub fn stream_laws()
 /// bytes, in whatever way these are cut.
 pub fn feed_laws<N: NodeCalls>()
     ensures joins { JoinsFeeds N.reach }
+{}
+
+/// What holds of every compare: by what one search of its object finds it is answered as the rules say.
+pub fn compare_laws()
+    ensures rules { ComparesByRules }
 {}

@@ -2,10 +2,12 @@
 //! other, by the calls of a node, and answered (RFC 4511, sections 4 and 5.2).
 #![tactic(auto)]
 
+mod answer;
 mod built;
 mod conn;
 mod first;
 mod laws;
+mod looking;
 mod machine;
 mod queue;
 mod reply;
@@ -14,7 +16,7 @@ mod write;
 
 pub use conn::Conn;
 pub use io_edge::Fed;
-pub use laws::{feed_laws, stream_laws};
+pub use laws::{compare_laws, feed_laws, stream_laws};
 pub use ldap_types::{Bytes, Identity, NoMemory};
 pub use machine::NodeMachine;
 pub use queue::ReplyQueue;

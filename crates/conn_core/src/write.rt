@@ -40,7 +40,7 @@ pub(crate) fn write<N: NodeCalls>(
     }
 }
 
-/// A request that is no bind: a write of a client is carried out, and nothing else touches the node.
+/// A request that is no bind, search or compare: a write of a client is carried out, and nothing else touches the node.
 pub(crate) fn serve_other<N: NodeCalls>(
     alloc: Global,
     node: &mut N,

@@ -8,6 +8,7 @@ use Rattle.dir_top.specs.declared.state.State.{State}
 use Rattle.dir_top.specs.State.{script_suffix}
 use Rattle.dir_top.specs.Output.{lines_of}
 use Rattle.dir_top.specs.Converges.{Converges, ConvergesIn, ConvergesThroughout}
+use Rattle.dir_top.proofs.Alike.{answers_alike}
 use Rattle.dir_top.proofs.Reached.{IsReached, Reached, all_reached}
 
 module _ (sound : IsSoundJudge judge_view) where
@@ -24,7 +25,7 @@ module _ (sound : IsSoundJudge judge_view) where
 
   converges : (s : Option State) → Reached s → ConvergesIn s
   converges None r = tt
-  converges (Some s) r = state_converges s r
+  converges (Some s) r = let k = state_converges s r in (k, answers_alike s k.views)
 
   pub script_converges : (script : List ℕ) → ConvergesThroughout script
   script_converges script = all_reached ConvergesIn converges None 1 (lines_of script) tt

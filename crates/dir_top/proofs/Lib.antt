@@ -1,6 +1,8 @@
+pub mod Alike
 pub mod Converging
 pub mod Inputs
 pub mod Leading
+pub mod ReadsAt
 pub mod Reached
 pub mod Reaching
 pub mod Runs

@@ -120,12 +120,12 @@ module _ (n : ℕ) (s : Served) (r : Request) (lawful : IsLawful s.world) (i : I
   serve-goes : (o : Op) → Goes n s (serve_op n s r o)
   serve-goes (op.Bind bind) = stays n s _ refl i
   serve-goes op.Unbind = other
-  serve-goes (op.Search search) = other
+  serve-goes (op.Search search) = stays n s _ refl i
   serve-goes (op.Modify object mods) = other
   serve-goes (op.Add object attrs) = other
   serve-goes (op.Delete object) = other
   serve-goes (op.Rename object new_rdn delete_old new_superior) = other
-  serve-goes (op.Compare object name value) = other
+  serve-goes (op.Compare object name value) = stays n s _ refl i
   serve-goes (op.Abandon id) = other
   serve-goes (op.Extended oid value) = other
 

@@ -7,6 +7,8 @@ use Rattle.ldap_types.specs.declared.request.Request.{Request}
 use Rattle.ldap_types.specs.declared.request.Op.{Op}
 use Rattle.ldap_types.specs.declared.request.Op.TheVariants as op
 use Rattle.ldap_types.specs.declared.reply.Identity.{Identity}
+use Rattle.repl_data.specs.declared.change.ShownEntry.{ShownEntry}
+use Rattle.search_core.specs.declared.found.Found.{Found}
 use Rattle.ldap_types.specs.declared.reply.LdapResult.{LdapResult}
 use Rattle.ldap_rules.specs.Case.{result_of}
 use Rattle.node_core.specs.Steps.{judge_view}
@@ -17,12 +19,13 @@ use Rattle.world_core.specs.At.{At, at_reach}
 use Rattle.io_edge.specs.declared.machine.Fed.{Fed}
 use Rattle.conn_core.specs.declared.conn.Conn.{Conn}
 use Rattle.conn_core.specs.Whole.{Stream, stream_of}
-use Rattle.conn_core.specs.Serving.{Session, Serves, ServesOther, AreServed, IsWritten, reply_to, sent, plain_code, count_starved}
+use Rattle.conn_core.specs.Serving.{Session, Serves, ServesOther, AreServed, IsWritten, only, replies_to, plain_code, count_starved}
 use Rattle.conn_core.specs.Feeding.{session, Feeds, notice_of, held_of, is_end}
 use Rattle.conn_core.proofs.Cuts.{has_one_stream}
-use Rattle.dir_top.specs.Serving.{Served, after_bind, after_plain, after_write, serve_op, serve, serve_all}
+use Rattle.dir_top.specs.Serving.{Served, replied as with_replies, after_bind, after_plain, after_write, search_answer, compare_answer, serve_op, serve, serve_all}
 use Rattle.dir_top.specs.Turn.{turn_by, turn}
 use Rattle.dir_top.proofs.WritesAt.{IsNotStarved, written-at, write-clock}
+use Rattle.dir_top.proofs.ReadsAt.{searched-at, compared-at}
 
 -- ---- where no request was answered for want of memory at the end, none was before
 
@@ -37,7 +40,7 @@ uncounted result n e =
 
 starved-none : (now : ℕ) (rs : List Request) (old new : Session At) → AreServed at_reach now rs old new → new.starved ≡ 0 → old.starved ≡ 0
 starved-none now [] old new s e = sym (ap (λ (x : Session At). x.starved) s) ∙ e
-starved-none now (r ∷ rs) old new s e = (uncounted s.1.result old.starved (sym s.1.counted ∙ starved-none now rs s.0 new s.2 e)).1
+starved-none now (r ∷ rs) old new s e = (uncounted s.1.answer.result old.starved (sym s.1.counted ∙ starved-none now rs s.0 new s.2 e)).1
 
 -- ---- one request
 
@@ -55,54 +58,68 @@ together w v a b x y p q u =
     ∙ ap (λ z. record { world = v; bound = z; replies = x }) q
     ∙ ap (λ z. record { world = v; bound = b; replies = z }) u
 
-module _ (now : ℕ) (r : Request) (old new : Session At) (clock : old.node.world.clock ≡ now) (result : LdapResult) (replied : new.replies ≡ old.replies ++ sent r.id (reply_to r.op result)) (fed : IsNotStarved result) where
+module _ (now : ℕ) (r : Request) (old new : Session At) (clock : old.node.world.clock ≡ now) (answer : Found) (replied : new.replies ≡ old.replies ++ replies_to r.id r.op answer) (fed : IsNotStarved answer.result) where
   abbrev IsLeft : Op → Type 0
   IsLeft o = (new.node.n ≡ old.node.n) × (new.node.world.clock ≡ now) × (served_of new ≡ serve_op old.node.n (served_of old) r o)
 
-  plain : (code : ℕ) → new.node ≡ old.node → new.bound ≡ old.bound → result ≡ result_of code → (new.node.n ≡ old.node.n) × (new.node.world.clock ≡ now) × (served_of new ≡ after_plain (served_of old) r code)
-  plain code p q e = (
+  -- neither node nor connection changes
+  stays : (told : Found) → new.node ≡ old.node → new.bound ≡ old.bound → answer ≡ told → (new.node.n ≡ old.node.n) × (new.node.world.clock ≡ now) × (served_of new ≡ with_replies (served_of old) r told)
+  stays told p q e = (
     ap (λ (a : At). a.n) p,
     ap (λ (a : At). a.world.clock) p ∙ clock,
-    together new.node.world old.node.world new.bound old.bound new.replies (old.replies ++ sent r.id (reply_to r.op (result_of code))) (ap (λ (a : At). a.world) p) q
-        (replied ∙ ap (λ x. old.replies ++ sent r.id (reply_to r.op x)) e),
+    together new.node.world old.node.world new.bound old.bound new.replies (old.replies ++ replies_to r.id r.op told) (ap (λ (a : At). a.world) p) q
+        (replied ∙ ap (λ x. old.replies ++ replies_to r.id r.op x) e),
   )
 
-  -- a request that is no bind
-  other : (new.bound ≡ old.bound) × ServesOther at_reach now old.bound r old.node new.node result
+  -- an answer without entries
+  alone : answer.entries ≡ [] → answer ≡ only answer.result
+  alone e = ap (λ (es : List ShownEntry). let a : Found = record { entries = es; result = answer.result } in a) e
+
+  alone-is : (result : LdapResult) → answer.entries ≡ [] → answer.result ≡ result → answer ≡ only result
+  alone-is result e h = alone e ∙ ap (λ (x : LdapResult). only x) h
+
+  -- a request that is no bind, search or compare
+  other : (new.bound ≡ old.bound) × ServesOther at_reach now old.bound r old.node new.node answer.result × (answer.entries ≡ [])
       → (new.node.n ≡ old.node.n) × (new.node.world.clock ≡ now) × (served_of new ≡ (if is_client_write r then after_write (served_of old) r (write_in judge_view old.node.world old.node.n r old.bound) else after_plain (served_of old) r (plain_code r.op)))
   other s =
       elim s.1 [
         | inl w ↦
-            (let h = written-at old.node new.node r old.bound (subst (λ t. IsWritten at_reach t old.bound r old.node new.node result) (sym clock) w.1) fed in (
+            (let h = written-at old.node new.node r old.bound (subst (λ t. IsWritten at_reach t old.bound r old.node new.node answer.result) (sym clock) w.1) fed in (
               h.0,
               ap (λ (p : World × LdapResult). p.0.clock) (sym h.1) ∙ write-clock old.node.world old.node.n r old.bound ∙ clock,
-              together new.node.world new.node.world new.bound old.bound new.replies (old.replies ++ sent r.id (reply_to r.op result)) refl s.0 replied
+              together new.node.world new.node.world new.bound old.bound new.replies (old.replies ++ replies_to r.id r.op (only answer.result)) refl s.0
+                  (replied ∙ ap (λ x. old.replies ++ replies_to r.id r.op x) (alone s.2))
                   ∙ ap (λ p. after_write (served_of old) r p) (sym h.1)
                   ∙ sym (if_true _ _ w.0),
             ))
         | inr u ↦
-            (let h = plain (plain_code r.op) u.1 s.0 u.2 in
+            (let h = stays (only (result_of (plain_code r.op))) u.1 s.0 (alone-is (result_of (plain_code r.op)) s.2 u.2) in
             (h.0, h.1, h.2 ∙ sym (if_false _ _ u.0)))
       ]
 
-  served-op : (o : Op) → Serves at_reach now old.bound r old.node new.node new.bound result o → IsLeft o
+  served-op : (o : Op) → Serves at_reach now old.bound r old.node new.node new.bound answer o → IsLeft o
   served-op (op.Bind b) s =
       elim s.1 [
         | inl v ↦ (
           ap (λ (a : At). a.n) s.0,
           ap (λ (a : At). a.world.clock) s.0 ∙ clock,
-          together new.node.world old.node.world new.bound new.bound new.replies (old.replies ++ sent r.id (reply_to r.op result)) (ap (λ (a : At). a.world) s.0) refl replied
+          together new.node.world old.node.world new.bound new.bound new.replies (old.replies ++ replies_to r.id r.op (only answer.result)) (ap (λ (a : At). a.world) s.0) refl
+              (replied ∙ ap (λ x. old.replies ++ replies_to r.id r.op x) (alone s.2))
               ∙ ap (λ p. after_bind (served_of old) r p) (sym v),
         )
         | inr short ↦ absurd (fed (ap (λ (x : LdapResult). x.code.number) short.1))
       ]
   served-op op.Unbind s = other s
-  served-op (op.Search search) s = other s
+  served-op (op.Search q) s =
+      let h = searched-at r.controls q old.node new.node answer s.1 fed in
+      stays (search_answer old.node.world old.node.n r.controls q) h.0 s.0 h.1
   served-op (op.Modify object mods) s = other s
   served-op (op.Add object attrs) s = other s
   served-op (op.Delete object) s = other s
   served-op (op.Rename object new_rdn delete_old new_superior) s = other s
-  served-op (op.Compare object name value) s = other s
+  served-op (op.Compare object name value) s =
+      let h = compared-at r.controls object name value old.node new.node answer.result s.1 fed in
+      stays (only (compare_answer old.node.world old.node.n r.controls object name value)) h.0 s.0 (alone-is (compare_answer old.node.world old.node.n r.controls object name value) s.2 h.1)
   served-op (op.Abandon id) s = other s
   served-op (op.Extended oid value) s = other s
 
@@ -114,7 +131,7 @@ served-all n now (r ∷ rs) old new s e here clock =
     let between = s.0 in
     let one = s.1 in
     let none = starved-none now rs between new s.2 e in
-    let h = served-op now r old between clock one.result one.replied (uncounted one.result old.starved (sym one.counted ∙ none)).0 r.op one.served in
+    let h = served-op now r old between clock one.answer one.replied (uncounted one.answer.result old.starved (sym one.counted ∙ none)).0 r.op one.served in
     served-all n now rs between new s.2 e (h.0 ∙ here) h.1
     ∙ ap (λ x. serve_all n x rs) (h.2 ∙ ap (λ m. serve m (served_of old) r) here)
 

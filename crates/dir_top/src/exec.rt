@@ -303,7 +303,8 @@ pub fn exec_main<S: Source, K: Sink>(
     ensures ended { result ≡ Status.Done → IsAtEnd (S.left source.new) }
 
     // Before and after each line of every script the vectors are exact, each node holds a prefix of each originator's
-    // changes, and nodes with equal vectors and nothing pending have the same changes and show the same entries.
+    // changes, and nodes with equal vectors and nothing pending have the same changes, show the same entries, and answer
+    // every search with the same bytes.
     ensures converges { (script : List ℕ) → ConvergesThroughout script }
 
     // A fault is told only where the source or the sink had one in this call.

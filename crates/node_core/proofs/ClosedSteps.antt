@@ -37,7 +37,7 @@ with_csn-taken : (n : Node) (old new : Csn) → (with_csn n old new).taken ≡ n
 with_csn-taken n old new = elim (cases_Bool (csn_eq old new)) [ inl t ↦ ap (λ (m : Node). m.taken) (if_true _ _ t) | inr f ↦ ap (λ (m : Node). m.taken) (if_false _ _ f) ]
 
 -- what the change needs is below the CSN that is taken
-need_below : (n : Node) (csn : Csn) (now : ℕ) (target : Option Uid) (body : Body) (new : Csn) → IsSoundNode n → IsArrival n.taken → IsSoundWrite n.taken target body → IsPlain csn
+pub need_below : (n : Node) (csn : Csn) (now : ℕ) (target : Option Uid) (body : Body) (new : Csn) → IsSoundNode n → IsArrival n.taken → IsSoundWrite n.taken target body → IsPlain csn
     → csn_for n csn (needed (target_at csn target) body) now ≡ Some new → 0 < new.rid → number_of (needed (target_at new target) body).csn < number_of new
 need_below n csn now target body new s closed sw plain e low =
     elim (csn_for-cases n csn (needed (target_at csn target) body) now new e) [

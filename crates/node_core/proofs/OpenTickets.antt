@@ -242,7 +242,7 @@ committed-write n old new target body o (inr f) =
     (taken-open n old (change_at new target body) (without n.pending old ++ new ∷ []) (moment_of new) o (inr f) (moved-drawn n old new o.is_pending f.0))
 
 -- what the answer Committed means
-committed-from : (n : Node) (life : ℕ) (csn : Csn) (v : Verdict) (now : ℕ) (new : Csn) → commit_answer n life csn v now false ≡ Committed new
+pub committed-from : (n : Node) (life : ℕ) (csn : Csn) (v : Verdict) (now : ℕ) (new : Csn) → commit_answer n life csn v now false ≡ Committed new
     → (life ≡ n.life) × ((target : Option Uid) × (body : Body) × (v ≡ Writes target body) × (csn_for n csn (needed (target_at csn target) body) now ≡ Some new))
 committed-from n life csn v now new e =
     let l = if_only (life == n.life) (judged n csn v now false) (Stale n.life) (Committed new) (λ q. cc) e in

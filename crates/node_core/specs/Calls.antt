@@ -25,6 +25,7 @@ use Rattle.node_core.specs.declared.ticket.Receipt.{Receipt}
 use Rattle.pending_core.specs.Draw.{generator_at}
 use Rattle.change_log.specs.Log.{csns_of}
 use Rattle.node_core.specs.Node.{Node}
+use Rattle.node_core.specs.Searches.{Sight}
 use Rattle.node_core.specs.Steps.{Judge, CommitAnswer, Stale, Refused, CommitExhausted, KeeperFailed, Committed, Full, Exhausted, begin_answer, after_begin, verdict_at, commit_answer, after_commit, offer, apply_answer, after_apply, acquire_fault, after_acquire}
 
 -- ---- how a node is reached
@@ -35,6 +36,8 @@ pub record Reach (N : Type 0) : Type 1 where
   pub node : N → Node
   -- the node that the call met which led from the one value to the other
   pub met : N → N → Node
+  -- what the search showed which led from the one value to the other
+  pub shown : N → N → Sight
   -- the one node may come from the other by steps of others
   pub follows : N → Node → Node → Type 0
   -- all that stands beside the node is as it was

@@ -1,4 +1,5 @@
 pub mod Node
+pub mod Searches
 pub mod Steps
 pub mod Sound
 pub mod Answers

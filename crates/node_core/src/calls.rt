@@ -2,13 +2,15 @@
 
 ghost use Rattle.std.specs.Prelude.{◌≡◌, ◌≢◌, IfOk, MatchResult};
 ghost use Rattle.node_core.specs.Node.{vector_of};
+ghost use Rattle.node_core.specs.Searches.{searched};
 ghost use Rattle.node_core.specs.Steps.{judge_view, ended, released};
 ghost use Rattle.node_core.specs.Calls.{IsCall, Begins, Commits, IsWrite, Acquires, Offers, Applies, AreSame, IsAdded, IsTaken, IsMoved, csn_left, CommitCause, ApplyCause};
 
 use crate::fault::{BeginFault, CommitFault};
 use crate::ticket::{Receipt, Ticket};
-use ldap_types::{Identity, Request};
+use ldap_types::{Identity, Request, SearchRequest};
 use repl_data::{NoMemory, Update};
+use search_core::Found;
 use std::alloc::Global;
 use vector_core::{AcquireFault, Applied, ApplyFault, Offer, Start, Vector};
 
@@ -169,6 +171,20 @@ pub trait NodeCalls {
         ensures call { IsCall reach self.old self.new }
         // The vector of the node that it met.
         ensures step { IfOk result (λ vector. vector ≡ vector_of (reach.met self.old self.new)) }
+        // The node is left as it was met.
+        ensures left { reach.node self.new ≡ reach.met self.old self.new }
+        // The same tickets are open.
+        ensures open { AreSame (is_open self.old) (is_open self.new) }
+        // The same tickets are committed.
+        ensures committed { AreSame (is_committed self.old) (is_committed self.new) };
+
+    /// The answer to a search (RFC 4511, section 4.5). A call tells the view and the vector that it shows, which may
+    /// be those of an earlier state of the node.
+    fn search(&mut self, alloc: Global, request: &SearchRequest) -> Result<Found, NoMemory>
+        // What every call keeps.
+        ensures call { IsCall reach self.old self.new }
+        // The answer of that view, with that vector.
+        ensures step { IfOk result (λ found. found ≡ searched (reach.shown self.old self.new) request.now) }
         // The node is left as it was met.
         ensures left { reach.node self.new ≡ reach.met self.old self.new }
         // The same tickets are open.

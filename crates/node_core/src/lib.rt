@@ -10,6 +10,7 @@ mod front;
 mod laws;
 mod node;
 mod reached;
+mod searching;
 mod shown;
 mod ticket;
 
@@ -19,5 +20,6 @@ pub use fault::{BeginFault, CommitFault, used_up};
 pub use laws::{answer_laws, arrival_laws, judge_laws, node_laws, update_laws, vector_laws};
 pub use ldap_types::Identity;
 pub use node::NodeState;
+pub use search_core::Found;
 pub use ticket::{Receipt, Ticket};
 pub use vector_core::{AcquireFault, Applied, ApplyFault, Offer, Start};

@@ -4,8 +4,9 @@ use crate::calls::NodeCalls;
 use crate::fault::{BeginFault, CommitFault};
 use crate::node::NodeState;
 use crate::ticket::{Receipt, Ticket};
-use ldap_types::{Identity, Request};
+use ldap_types::{Identity, Request, SearchRequest};
 use repl_data::{NoMemory, Update};
+use search_core::Found;
 use std::alloc::Global;
 use vector_core::{AcquireFault, Applied, ApplyFault, Offer, Start, Vector};
 
@@ -15,10 +16,11 @@ impl NodeCalls for NodeState {
     ghost use Rattle.repl_data.specs.declared.csn.Csn.{Csn};
     ghost use Rattle.repl_data.specs.declared.change.Update.{Update};
     ghost use Rattle.node_core.specs.Node.{Node};
+    ghost use Rattle.node_core.specs.Searches.{sight_of};
     ghost use Rattle.node_core.specs.Calls.{Reach, IsPending, IsPendingTaken};
 
     // A call meets the node that the last one left.
-    ghost reach = { record { node = λ s. s; met = λ old _. old; follows = λ _ left meets. meets ≡ left; keeps = λ _ _. Unit {0}; faults = λ _. 0 } };
+    ghost reach = { record { node = λ s. s; met = λ old _. old; shown = λ old _. sight_of old; follows = λ _ left meets. meets ≡ left; keeps = λ _ _. Unit {0}; faults = λ _. 0 } };
 
     ghost is_open = { IsPending };
 
@@ -66,6 +68,10 @@ impl NodeCalls for NodeState {
 
     fn vector(&mut self, alloc: Global) -> Result<Vector, NoMemory> {
         NodeState::vector(self, alloc)
+    }
+
+    fn search(&mut self, alloc: Global, request: &SearchRequest) -> Result<Found, NoMemory> {
+        NodeState::search(self, alloc, request)
     }
 
     fn commit(

@@ -13,3 +13,4 @@ pub mod Whole
 pub mod Attrs
 pub mod WrittenMods
 pub mod AcceptedMods
+pub mod Commits

@@ -17,6 +17,9 @@ ghost use Rattle.ldap_rules.specs.Add.{add_verdict};
 ghost use Rattle.ldap_rules.specs.Modify.{modify_verdict};
 ghost use Rattle.ldap_rules.specs.Laws.{change_at, needed_at, IsDrawnAbove};
 ghost use Rattle.plain_effect.specs.Above.{IsAbove};
+ghost use Rattle.plain_effect.specs.Commit.{CommitsPlainly};
+
+use node_core::judge_laws;
 
 /// An add that the rules accept, at a CSN above all changes of a closed set, has its plain effect: the view of
 /// the set with the change is the view before with one entry more, of the name and the values of the body.
@@ -34,3 +37,11 @@ pub fn modify_effect_law()
         → IsClosed xs → IsAbove c xs → modify_verdict (view_of suffix xs) controls bound object given ≡ Ok (u, body) → IsDrawnAbove c u
         → plain_effect (view_of suffix xs) (change_at c (Some u) body) ≡ Some (view_of suffix (xs ++ change_at c (Some u) body ∷ [])) }
 {}
+
+/// A commit of an add or a modify, whose CSN is above all that the node has taken: one change more is taken, and the
+/// view after is its plain effect on the view before.
+pub fn commit_effect_law()
+    ensures plain { CommitsPlainly }
+{
+    judge_laws();
+}

@@ -149,7 +149,7 @@ pub IsRun-append : (judge : Judge) (w : World) (ds es : List Deed) → IsRun jud
 IsRun-append judge w [] es r = (tt, r)
 IsRun-append judge w (d ∷ ds) es r = (let q = IsRun-append judge (after judge w d) ds es r.1 in ((r.0, q.0), q.1))
 
-IsRun-join : (judge : Judge) (w : World) (ds es : List Deed) → IsRun judge w ds → IsRun judge (after_all judge w ds) es → IsRun judge w (ds ++ es)
+pub IsRun-join : (judge : Judge) (w : World) (ds es : List Deed) → IsRun judge w ds → IsRun judge (after_all judge w ds) es → IsRun judge w (ds ++ es)
 IsRun-join judge w [] es r q = q
 IsRun-join judge w (d ∷ ds) es r q = (r.0, IsRun-join judge (after judge w d) ds es r.1 q)
 

@@ -2,6 +2,7 @@
 use Rattle.std.specs.Prelude.{◌≡◌, ℕ}
 use Rattle.repl_data.specs.declared.csn.Csn.{Csn}
 use Rattle.node_core.specs.Node.{Node}
+use Rattle.node_core.specs.Searches.{sight_of}
 use Rattle.node_core.specs.Calls.{Reach, IsPending, IsPendingTaken}
 use Rattle.world_core.specs.World.{World, node_in, put}
 use Rattle.world_core.specs.Laws.{IsNoTicket}
@@ -20,7 +21,7 @@ pub record IsBeside (old new : At) : Type 0 where
 
 -- how the node is reached: each call meets the node that the last one left, and its keeper never fails
 abbrev pub at_reach : Reach At
-at_reach = record { node = reached; met = λ old new. reached old; follows = λ a left meets. meets ≡ left; keeps = IsBeside; faults = λ a. 0 }
+at_reach = record { node = reached; met = λ old new. reached old; shown = λ old new. sight_of (reached old); follows = λ a left meets. meets ≡ left; keeps = IsBeside; faults = λ a. 0 }
 
 -- a CSN of which this holds at the node, and that no ticket of the world at that node has, in the node's present life
 pub record IsApart (holds : Node → Csn → Type 0) (a : At) (csn : Csn) : Type 0 where

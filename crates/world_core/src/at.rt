@@ -8,10 +8,10 @@ use crate::nodes::{
 };
 use crate::state::WorldState;
 use crate::world::World;
-use ldap_types::{Identity, Request};
+use ldap_types::{Identity, Request, SearchRequest};
 use node_core::{
-    AcquireFault, Applied, ApplyFault, BeginFault, CommitFault, NodeCalls, Offer, Receipt, Start,
-    Ticket,
+    AcquireFault, Applied, ApplyFault, BeginFault, CommitFault, Found, NodeCalls, Offer, Receipt,
+    Start, Ticket,
 };
 use repl_data::{Csn, NoMemory, Update};
 use std::alloc::Global;
@@ -154,5 +154,9 @@ impl NodeCalls for AtNode {
 
     fn vector(&mut self, alloc: Global) -> Result<Vector, NoMemory> {
         node_at(self.state.nodes.as_slice(), self.n).vector(alloc)
+    }
+
+    fn search(&mut self, alloc: Global, request: &SearchRequest) -> Result<Found, NoMemory> {
+        node_at(self.state.nodes.as_slice(), self.n).search(alloc, request)
     }
 }

@@ -1,30 +1,23 @@
 use Rattle.std.proofs.Common.{◌∙◌, refl, drop, arith, length-drop}
-use Rattle.conn_core.specs.Feeding.{session}
+use Rattle.conn_core.specs.Feeding.{session, none_missing, some_missing}
 use Rattle.conn_core.proofs.Streams.{is_next, none_behind}
-use Rattle.conn_core.proofs.Carrying.{carries_none, carried_on, further, cut_none, still_more}
+use Rattle.conn_core.proofs.Carrying.{carries_none, carried_on, further, begins_one, still_more}
 use Rattle.conn_core.proofs.Tickets.{same_twice}
 use Rattle.conn_core.proofs.conn.Conn.serve.Goals as goal
 
 pub returns-in_default-clause-cut : goal.returns-in_default-clause-cut
-returns-in_default-clause-cut g c = record {
-  left = drop c.loop-at.at c.args.stream.now;
-  last = session c.loop-at.self c.loop-at.node;
-  carried = c.loop-at.invariant.carried (drop c.loop-at.at c.args.stream.now) (session c.loop-at.self c.loop-at.node) (carries_none _ c.args.now (drop c.loop-at.at c.args.stream.now) (session c.loop-at.self c.loop-at.node));
-  cut = cut_none (session c.loop-at.self c.loop-at.node);
-}
+returns-in_default-clause-cut g c =
+    none_missing (drop c.loop-at.at c.args.stream.now)
+    (c.loop-at.invariant.carried (drop c.loop-at.at c.args.stream.now) (session c.loop-at.self c.loop-at.node) (carries_none _ c.args.now (drop c.loop-at.at c.args.stream.now) (session c.loop-at.self c.loop-at.node)))
 
 pub returns-in-Err-clause-cut : goal.returns-in-Err-clause-cut
 returns-in-Err-clause-cut g c =
     let k = is_next c.loop-at.at c.args.stream.now c.in-Ok.first c.in-Next.request c.in-Next.size c.in-Next.is c.in-Ok.ensures in
     let s = c.in-Err.ensures.served in
-    record {
-      left = drop c.in-Next.size (drop c.loop-at.at c.args.stream.now);
-      last = s.0;
-      carried = c.loop-at.invariant.carried (drop c.in-Next.size (drop c.loop-at.at c.args.stream.now)) s.0
-          (carried_on _ c.args.now (drop c.loop-at.at c.args.stream.now) c.in-Next.request c.in-Next.size (session c.loop-at.self c.loop-at.node) s.0 s.0 k.0 k.1 s.1 refl
-          (drop c.in-Next.size (drop c.loop-at.at c.args.stream.now)) s.0 (carries_none _ c.args.now (drop c.in-Next.size (drop c.loop-at.at c.args.stream.now)) s.0));
-      cut = s.2;
-    }
+    some_missing (drop c.loop-at.at c.args.stream.now) (drop c.in-Next.size (drop c.loop-at.at c.args.stream.now)) c.in-Next.request (session c.loop-at.self c.loop-at.node) s.0
+    (c.loop-at.invariant.carried (drop c.loop-at.at c.args.stream.now) (session c.loop-at.self c.loop-at.node) (carries_none _ c.args.now (drop c.loop-at.at c.args.stream.now) (session c.loop-at.self c.loop-at.node)))
+    (begins_one (drop c.loop-at.at c.args.stream.now) c.in-Next.request c.in-Next.size k.0 k.1)
+    s.1 s.2
 
 pub loop-at-preserved : goal.loop-at-preserved
 loop-at-preserved g c =

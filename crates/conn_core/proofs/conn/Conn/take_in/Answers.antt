@@ -1,11 +1,17 @@
 use Rattle.std.proofs.Common.{◌∙◌, ◌++◌, List, ℕ, ap, sym, refl, drop}
 use Rattle.conn_core.specs.Feeding.{session}
 use Rattle.conn_core.specs.Stream.{first_request}
-use Rattle.conn_core.proofs.Carrying.{part_none, part_kept, feeds_none, feeds_so, still, still_more}
+use Rattle.conn_core.proofs.Carrying.{part_none, part_on, part_kept, feeds_none, feeds_so, still, still_more}
 use Rattle.conn_core.proofs.conn.Conn.take_in.Goals as goal
 
 pub returns-in-Err-clause-part : goal.returns-in-Err-clause-part
 returns-in-Err-clause-part g c = part_none _ c.args.now (c.args.self.now.held ++ c.args.piece.now) (session c.args.self.now c.args.node.now)
+
+pub returns-in_default-serve-clause-part : goal.returns-in_default-serve-clause-part
+returns-in_default-serve-clause-part g c =
+    part_on _ c.args.now (c.args.self.now.held ++ c.args.piece.now) c.as_slice.result.now (session c.args.self.now c.args.node.now) (session c.serve.new.self c.serve.new.node)
+    (c.as_slice.ensures ∙ c.waits.ensures.same ∙ c.in_default.ensures.ok ∙ ap (λ (x : List ℕ). x ++ c.args.piece.now) c.replace-stream.ensures.value)
+    c.in_default-serve.ensures.cut
 
 pub returns-in-Err-finish-clause-part : goal.returns-in-Err-finish-clause-part
 returns-in-Err-finish-clause-part g c =
