@@ -7,7 +7,9 @@ mod parties;
 mod runs;
 mod told;
 
+use agreement_run::run_laws;
 use case_lines::{CaseFault, Fields, Subjects, run_cases};
+use offered::Offered;
 use parties::Parties;
 use std::alloc::Global;
 use std::process::ExitCode;
@@ -38,6 +40,7 @@ impl<R: Wait> Subjects for AgreementCases<'_, R> {
 }
 
 fn main(rt: HostRuntime) -> ExitCode {
+    run_laws::<Offered<'_>>();
     let parties = Parties::new(rt.alloc());
     run_cases(&rt, &mut AgreementCases { rt: &rt, parties })
 }

@@ -1,3 +1,4 @@
 pub mod Pieces
 pub mod Going
 pub mod Turned
+pub mod Ends

@@ -3,3 +3,4 @@ pub mod Sides
 pub mod Waiting
 pub mod Turn
 pub mod Running
+pub mod Laws

@@ -5,11 +5,13 @@
 
 mod end;
 mod inbox;
+mod laws;
 mod next;
 mod session;
 mod sides;
 mod turn;
 
 pub use end::RunEnd;
+pub use laws::run_laws;
 pub use replica_session::{SessionEnd, Supply};
 pub use session::run_session;
