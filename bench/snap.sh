@@ -8,7 +8,7 @@ set -eu
 
 here=$(cd "$(dirname "$0")/.." && pwd)
 program=$here/crates/snap_cases/out/snap_cases
-[ -x "$program" ] || (cd "$here/crates/snap_cases" && rt run -- cases > /dev/null)
+[ -x "$program" ] || (cd "$here/crates/snap_cases" && rt run -- snapshots.cases > /dev/null)
 
 printf '%8s %9s %9s %9s %10s %10s %10s %10s\n' entries 'add, us' 'plan, us' 'move, us' 'tree, ms' 'snap, ms' 'tree, ms' 'snap, ms'
 for entries in 1000 10000 100000; do

@@ -1,51 +1,83 @@
-//! Cases of snapshots and their times: `cases` runs the cases, and `times N` measures trees of N entries.
+//! Cases of snapshots, beside the tree and the plain view; and their times: `times N` measures trees of N entries.
 #![tactic(auto)]
 
-ghost use Rattle.std.specs.Prelude.{◌≡◌, ◌<◌};
-
-mod cases;
-mod changes;
-mod digest;
+mod drawn;
+mod generated;
 mod run;
 mod searching;
+mod shown;
 mod times;
+mod versions;
 
-use anyhow::{Result, bail};
-use cow_map::Steps;
+use case_lines::{CaseFault, Fields, Subjects, run_cases};
+use case_views::{Taken, example_suffix};
+use repl_data::Suffix;
+use std::alloc::Global;
 use std::env;
-use std::marker::Brand;
-use std::sync::ledger::{Blank, Ledger};
+use std::process::ExitCode;
 
-/// The words of the command line without the program's own name.
-fn words(rt: &HostRuntime) -> Result<Vec<String>> {
-    Ok(env::args(rt)?.skip(1).collect(rt.alloc())?)
+/// The changes so far.
+#[derive(Drop)]
+struct Snapshots {
+    taken: Taken,
+    suffix: Suffix,
 }
 
-/// Does what the words ask for, with a counter over the ledger.
-fn counted<L: Ledger>(rt: &HostRuntime, words: &[String], blank: Blank) -> Result<()>
-    requires name { blank.name ≡ L.name }
-    requires parts { blank.parts ≡ L.parts }
-    requires some { 0 < blank.parts }
-{
-    let mut steps = Steps::new(blank);
-    let steps: &mut Steps<L> = &mut steps;
-    match words {
-        [word] if word.as_str() == "cases" => cases::run(rt, steps),
-        [word, entries] if word.as_str() == "times" => {
-            times::run(rt, entries.as_str().parse::<u32>()?, steps)
+impl Subjects for Snapshots {
+    fn answer(
+        &mut self,
+        alloc: Global,
+        subject: &str,
+        fields: &mut Fields<'_>,
+        told: &mut String,
+    ) -> Result<(), CaseFault> {
+        match subject {
+            "begin" => {
+                self.taken = Taken::new(alloc);
+                Ok(())
+            }
+            "change" => self.taken.take(alloc, fields, told),
+            "moved" => {
+                let changes = self.taken.picked(alloc, fields.word()?)?;
+                versions::tell_moved(alloc, &self.suffix, changes.as_slice(), told)
+            }
+            "search" => {
+                let changes = self.taken.picked(alloc, fields.word()?)?;
+                searching::tell_search(alloc, &self.suffix, changes.as_slice(), fields, told)
+            }
+            "generated" => generated::tell_generated(alloc, &self.suffix, fields, told),
+            "large" => generated::tell_large(alloc, &self.suffix, fields, told),
+            _ => Err(CaseFault::Subject),
         }
-        _ => bail!("usage: snap_cases cases | snap_cases times N"),
     }
 }
 
-/// A counter begins over a ledger of its own.
-fn start(rt: &HostRuntime, words: &[String], blank: Blank) -> Result<()>
-    requires { 0 < blank.parts }
-{
-    counted::<Brand>(rt, words, blank)
+fn without_changes(alloc: Global) -> Result<Snapshots, CaseFault> {
+    Ok(Snapshots {
+        taken: Taken::new(alloc),
+        suffix: example_suffix(alloc)?,
+    })
 }
 
-fn main(rt: HostRuntime) -> Result<()> {
-    let words = words(&rt)?;
-    start(&rt, words.as_slice(), Blank::new(1))
+/// The number behind the word `times`, if that is what the command line has.
+fn measured(rt: &HostRuntime) -> Option<u32> {
+    let mut words = env::args(rt).ok()?.skip(1);
+    let word = words.next()?;
+    if word.as_str() != "times" {
+        return None;
+    }
+    words.next()?.as_str().parse::<u32>().ok()
+}
+
+fn main(rt: HostRuntime) -> ExitCode {
+    if let Some(entries) = measured(&rt) {
+        return match times::run(&rt, entries) {
+            Ok(()) => ExitCode::from(0),
+            Err(_) => ExitCode::from(2),
+        };
+    }
+    match without_changes(rt.alloc()) {
+        Ok(mut snapshots) => run_cases(&rt, &mut snapshots),
+        Err(_) => ExitCode::from(2),
+    }
 }
