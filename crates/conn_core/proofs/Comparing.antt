@@ -1,5 +1,5 @@
 -- A compare by what a search of its object finds.
-use Rattle.std.proofs.Common.{◌≡◌, ℕ, zero, suc, ◌+◌, ◌-◌, ◌==◌, Bool, true, false, ◌&&◌, ◌||◌, cond, List, [], ◌∷◌, ◌++◌, map, length, nat_le, Option, Some, None, Result, Ok, Err, pos, refl, sym, ap, subst, ◌∙◌, arith}
+use Rattle.std.proofs.Common.{◌≡◌, ℕ, suc, ◌+◌, ◌-◌, Bool, true, false, ◌&&◌, ◌||◌, cond, List, [], ◌∷◌, ◌++◌, map, length, nat_le, Option, Some, None, Result, Ok, Err, pos, refl, sym, ap, ◌∙◌, arith}
 use Rattle.std.proofs.lemmas.Bool.Decides.{nat_tests}
 use Rattle.std.specs.Prelude.{filter, flat_map, find, option_map, codes, drop, take, unwrap_or}
 use Rattle.std.specs.Option.{option_to_list}
@@ -10,7 +10,7 @@ use Rattle.repl_data.specs.declared.change.Shown.{Shown}
 use Rattle.repl_data.specs.declared.change.ShownEntry.{ShownEntry}
 use Rattle.repl_data.specs.Check.{is_empty}
 use Rattle.repl_data.specs.Order.{uid_eq}
-use Rattle.repl_data.specs.View.{DirectoryView, PresentEntry, present_at, present_shown, entry_of}
+use Rattle.repl_data.specs.View.{DirectoryView, PresentEntry, present_shown, entry_of}
 use Rattle.repl_data.proofs.Loops.{map_same}
 use Rattle.ldap_types.specs.declared.request.Control.{Control}
 use Rattle.ldap_types.specs.declared.request.SearchRequest.{SearchRequest}
@@ -20,19 +20,16 @@ use Rattle.ldap_types.specs.declared.reply.LdapResult.{LdapResult}
 use Rattle.dn_text.specs.declared.name.Dn.{Dn}
 use Rattle.dn_text.specs.declared.fault.DnFault.{DnFault}
 use Rattle.dn_text.specs.Reading.{dn_in}
-use Rattle.ldap_rules.specs.Case.{◌>>=◌, result_of, refuse, refuse_if}
+use Rattle.ldap_rules.specs.Case.{◌>>=◌, result_of, refuse_if}
 use Rattle.dn_text.specs.Names.{same_keys, rdns_above, entry_at, read_object, within}
 use Rattle.ldap_rules.specs.Compare.{keys_in, shown_at, compared, is_critical, compare_verdict}
 use Rattle.filter_truth.proofs.Equations.{truth-And}
 use Rattle.filter_truth.specs.Three.{is_yes}
 use Rattle.filter_truth.specs.Truth.{shows}
-use Rattle.view_walk.specs.Tree.{is_present}
-use Rattle.search_core.specs.declared.found.Found.{Found}
 use Rattle.search_core.specs.Scope.{scope_of}
 use Rattle.search_core.specs.Tree.{IsTree}
 use Rattle.search_core.specs.Hits.{is_meant, is_match}
 use Rattle.search_core.specs.Selection.{has_name, keys_of, is_asked, with_values, selected}
-use Rattle.search_core.specs.Tombstones.{asks_tombstones}
 use Rattle.search_core.specs.Search.{told, present_found, dead_hits, present_hits, hits_below, is_root, root_hits, hits, found_of, search}
 use Rattle.search_core.proofs.Askings.{and_asks}
 use Rattle.search_core.proofs.Bases.{base_there}
