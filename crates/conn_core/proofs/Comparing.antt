@@ -46,10 +46,10 @@ nothing_above : (suffix : List ℕ) → is_empty suffix ≡ false → (s : Resul
 nothing_above suffix some (Err x) e = refl
 nothing_above suffix some (Ok dn) e = by dn.rdns (name_some suffix dn some e)
   where
-    by : (rdns : List Rdn) → has_one rdns → option_map (λ (count : ℕ). take count []) (cond (nat_le (length rdns) 0 && same_keys (drop (0 - length rdns) []) rdns) (Some (0 - length rdns)) None) ≡ None
+    by : (rdns : List Rdn) → has_one rdns → ◌≡◌ {A = Option (List Rdn)} (option_map (λ (count : ℕ). take count []) (cond (nat_le (length rdns) 0 && same_keys (drop (0 - length rdns) []) rdns) (Some (0 - length rdns)) None)) None
     by [] h = let f : true ≡ false = h in absurd cc
     by (r ∷ rs) h =
-        ap (λ (b : Bool). option_map (λ (count : ℕ). take count []) (cond (b && same_keys (drop (0 - length (r ∷ rs)) []) (r ∷ rs)) (Some (0 - length (r ∷ rs))) None))
+        ap (λ (b : Bool). let above : Option (List Rdn) = option_map (λ (count : ℕ). take count []) (cond (b && same_keys (drop (0 - length (r ∷ rs)) []) (r ∷ rs)) (Some (0 - length (r ∷ rs))) None) in above)
         (above_zero (length rs))
 
 nothing_in : (text : List ℕ) → is_empty text ≡ true → text ≡ []
