@@ -1,5 +1,5 @@
 -- Searches and compares by one search of a node.
-use Rattle.std.proofs.Common.{◌≡◌, ℕ, true, false, List, Result, Err, refl, sym, ap, subst, ◌∙◌}
+use Rattle.std.proofs.Common.{◌≡◌, ℕ, true, false, List, Result, refl, sym, ap, subst, ◌∙◌}
 use Rattle.repl_data.specs.declared.items.NoMemory.{NoMemory}
 use Rattle.repl_data.specs.Check.{is_empty}
 use Rattle.ldap_types.specs.declared.request.Control.{Control}

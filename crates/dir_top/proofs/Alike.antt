@@ -1,5 +1,5 @@
 -- Nodes with equal vectors and nothing pending answer a search with the same bytes.
-use Rattle.std.proofs.Common.{◌≡◌, ℕ, if◌then◌else◌, List, [], ◌∷◌, ◌++◌, map, length, Ok, refl, sym, ap, subst, ◌∙◌, append-nil}
+use Rattle.std.proofs.Common.{◌≡◌, ℕ, if◌then◌else◌, List, [], ◌∷◌, ◌++◌, map, refl, sym, ap, ◌∙◌, append-nil}
 use Rattle.ldap_types.specs.declared.request.Request.{Request}
 use Rattle.ldap_types.specs.declared.request.SearchRequest.{SearchRequest}
 use Rattle.ldap_types.specs.declared.request.Op.{Op}
@@ -9,23 +9,20 @@ use Rattle.repl_data.specs.View.{DirectoryView, view_of}
 use Rattle.vector_core.specs.Text.{entry_text}
 use Rattle.search_core.specs.declared.found.Found.{Found}
 use Rattle.search_core.specs.Search.{search}
-use Rattle.node_core.specs.Node.{Node, vector_of}
-use Rattle.node_core.specs.Searches.{sight_of, searched}
+use Rattle.node_core.specs.Node.{vector_of}
 use Rattle.world_core.specs.World.{World, node_in}
 use Rattle.world_core.specs.Laws.{ShowTheSame}
 use Rattle.io_edge.specs.declared.machine.Fed.TheVariants.{Running}
-use Rattle.conn_core.specs.Stream.{first_request, is_unbind}
+use Rattle.conn_core.specs.Stream.{is_unbind}
 use Rattle.conn_core.specs.Whole.{Stream, stream_of}
 use Rattle.conn_core.specs.Serving.{has_critical, only, replies_to}
 use Rattle.conn_core.proofs.Streams.{none_in_nothing}
 use Rattle.conn_core.proofs.Cuts.{has_one_stream}
 use Rattle.ldap_rules.specs.Case.{result_of}
 use Rattle.dir_top.specs.declared.state.Connection.{Connection}
-use Rattle.dir_top.specs.declared.state.Connection.TheVariants.{Open}
 use Rattle.dir_top.specs.declared.state.State.{State}
 use Rattle.dir_top.specs.Client.{Client, with_bytes}
-use Rattle.dir_top.specs.State.{connection_in}
-use Rattle.dir_top.specs.Serving.{search_answer, serve_op, found, fed_by, fed}
+use Rattle.dir_top.specs.Serving.{serve_op, found, fed_by, fed}
 use Rattle.dir_top.specs.Report.{reply_lines}
 use Rattle.dir_top.specs.Converges.{Spells, IsFree, printed, search_replies, AreEven, AnswersAlike}
 
@@ -57,14 +54,15 @@ module _ (s : State) (r c : ℕ) (request : Request) (q : SearchRequest) (is : r
 
 -- ---- two nodes
 
+-- the answer on this view with this vector
+abbrev answer : Request → SearchRequest → DirectoryView → List Csn → Found
+answer request q v x = if has_critical request.controls then only (result_of 12) else search v (map entry_text x) q
+
 same_answer : (w : World) (r t : ℕ) (request : Request) (q : SearchRequest) → ShowTheSame w → AreEven w r t → search_replies w t request q ≡ search_replies w r request q
 same_answer w r t request q shows e =
     let views = shows r t e.first e.second e.none_here e.none_there e.vectors in
-    ap (λ (v : DirectoryView). replies_to request.id request.op (answer v (vector_of (node_in w t)))) (sym views)
-    ∙ ap (λ (x : List Csn). replies_to request.id request.op (answer (view_of (node_in w r).suffix (node_in w r).taken) x)) (sym e.vectors)
-  where
-    abbrev answer : DirectoryView → List Csn → Found
-    answer v x = if has_critical request.controls then only (result_of 12) else search v (map entry_text x) q
+    ap (λ (v : DirectoryView). replies_to request.id request.op (answer request q v (vector_of (node_in w t)))) (sym views)
+    ∙ ap (λ (x : List Csn). replies_to request.id request.op (answer request q (view_of (node_in w r).suffix (node_in w r).taken) x)) (sym e.vectors)
 
 pub answers_alike : (s : State) → ShowTheSame s.world → AnswersAlike s
 answers_alike s shows = λ r t c d e free also request q is bytes others spelled spells. (

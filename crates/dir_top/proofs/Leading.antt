@@ -1,5 +1,5 @@
 -- Worlds that come to be from one another.
-use Rattle.std.proofs.Common.{◌≡◌, List, [], ◌∷◌, ◌++◌, refl, sym, ap, subst, ◌∙◌}
+use Rattle.std.proofs.Common.{List, [], ◌∷◌, ◌++◌, refl, sym, ap, subst, ◌∙◌}
 use Rattle.node_core.specs.Steps.{Judge}
 use Rattle.world_core.specs.World.{World, Deed, Happens, after, after_all, step}
 use Rattle.world_core.specs.declared.event.Event.{Event}

@@ -1,5 +1,5 @@
 -- Each line that is carried out leads from world to world.
-use Rattle.std.proofs.Common.{◌≡◌, ℕ, ◌+◌, ◌≤◌, Bool, true, false, not, ◌&&◌, ◌||◌, List, [], ◌∷◌, Option, Some, None, option_map, if◌then◌else◌, refl, sym, subst, ◌∙◌, arith, inl, inr, nat_lt, leb-true, length}
+use Rattle.std.proofs.Common.{◌≡◌, ℕ, ◌+◌, ◌≤◌, Bool, true, false, not, ◌||◌, List, [], ◌∷◌, Option, Some, None, option_map, if◌then◌else◌, refl, sym, subst, ◌∙◌, arith, inl, inr, nat_lt, leb-true, length}
 use Rattle.std.specs.Prelude.{IfSome, IsSome, is_some, is_none}
 use Rattle.vector_core.proofs.Lists.{if_true, if_false}
 use Rattle.std.proofs.lemmas.Bool.{cases_Bool, true≢false}

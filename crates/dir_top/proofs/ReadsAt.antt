@@ -1,19 +1,17 @@
 -- Searches and compares by the calls of a world's node.
-use Rattle.std.proofs.Common.{◌≡◌, ℕ, Bool, true, false, cond, List, inl, inr, refl, sym, ap, ◌∙◌}
+use Rattle.std.proofs.Common.{◌≡◌, ℕ, List, inl, inr, refl, sym, ap, ◌∙◌}
 use Rattle.std.specs.Prelude.{Result, Ok, Err}
 use Rattle.vector_core.proofs.Lists.{if_true, if_false}
-use Rattle.repl_data.specs.Check.{is_empty}
 use Rattle.repl_data.specs.declared.items.NoMemory.{NoMemory}
 use Rattle.ldap_types.specs.declared.request.Control.{Control}
 use Rattle.ldap_types.specs.declared.request.SearchRequest.{SearchRequest}
 use Rattle.ldap_types.specs.declared.reply.LdapResult.{LdapResult}
-use Rattle.ldap_rules.specs.Case.{result_of}
 use Rattle.search_core.specs.declared.found.Found.{Found}
 use Rattle.node_core.specs.Searches.{sight_of, searched}
 use Rattle.world_core.specs.World.{World, node_in, put}
-use Rattle.world_core.specs.At.{At, reached, at_reach}
+use Rattle.world_core.specs.At.{At, at_reach}
 use Rattle.world_core.proofs.Outcomes.{same_node}
-use Rattle.conn_core.specs.Serving.{only, has_critical, IsSearched, or_other, Searches, search_refused, search_answered, Compares, compare_refused, compare_nothing, compare_unasked, compare_asked, compare_search, compare_result, IsComparedBy}
+use Rattle.conn_core.specs.Serving.{IsSearched, or_other, Searches, search_refused, search_answered, Compares, compare_refused, compare_nothing, compare_unasked, compare_asked, compare_search, compare_result, IsComparedBy}
 use Rattle.dir_top.specs.Serving.{search_answer, compare_answer}
 use Rattle.dir_top.proofs.WritesAt.{IsNotStarved}
 

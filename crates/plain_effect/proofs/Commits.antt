@@ -6,7 +6,7 @@ use Rattle.repl_data.specs.declared.csn.Uid.{Uid}
 use Rattle.repl_data.specs.declared.change.Body.{Body}
 use Rattle.repl_data.specs.declared.change.Change.{Change}
 use Rattle.repl_data.specs.declared.change.Suffix.{Suffix}
-use Rattle.repl_data.specs.Order.{csn_eq, csn_lt, number_of}
+use Rattle.repl_data.specs.Order.{csn_eq}
 use Rattle.repl_data.specs.Closed.{needed, IsClosed, IsArrival}
 use Rattle.repl_data.specs.Plain.{plain_effect}
 use Rattle.repl_data.specs.View.{DirectoryView, view_of}
@@ -31,7 +31,7 @@ use Rattle.node_core.specs.declared.ticket.Ticket.{Ticket}
 use Rattle.node_core.specs.declared.ticket.Receipt.{Receipt}
 use Rattle.node_core.specs.Node.{Node}
 use Rattle.node_core.specs.Sound.{IsPlain, IsSoundNode, IsOpen, IsSoundWrite, IsSoundJudge}
-use Rattle.node_core.specs.Steps.{Judge, judge_view, verdict_at, csn_for, moment_of, with_csn, after_commit, Committed}
+use Rattle.node_core.specs.Steps.{judge_view, verdict_at, csn_for, moment_of, after_commit, Committed}
 use Rattle.node_core.specs.Calls.{Commits}
 use Rattle.node_core.proofs.Orders.{number_lt}
 use Rattle.node_core.proofs.Arrivals.{known_plain}

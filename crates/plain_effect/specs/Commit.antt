@@ -1,5 +1,5 @@
 -- A COMMIT of an add or a modify, and its plain effect.
-use Rattle.std.specs.Prelude.{◌≡◌, ℕ, Bool, true, false, List, [], ◌∷◌, ◌++◌, Some, Ok}
+use Rattle.std.specs.Prelude.{◌≡◌, ℕ, Bool, true, false, [], ◌∷◌, ◌++◌, Some, Ok}
 use Rattle.repl_data.specs.declared.change.Change.{Change}
 use Rattle.repl_data.specs.Closed.{IsArrival}
 use Rattle.repl_data.specs.Plain.{plain_effect}

@@ -1,4 +1,4 @@
-use Rattle.std.proofs.Common.{sym, inl, inr}
+use Rattle.std.proofs.Common.{inl, inr}
 use Rattle.conn_core.proofs.Searched.{compared_so}
 use Rattle.conn_core.proofs.looking.compare_told.Goals as goal
 

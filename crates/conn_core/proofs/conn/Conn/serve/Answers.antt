@@ -1,4 +1,4 @@
-use Rattle.std.proofs.Common.{◌∙◌, refl, drop, arith, length-drop}
+use Rattle.std.proofs.Common.{◌∙◌, drop, arith, length-drop}
 use Rattle.conn_core.specs.Feeding.{session, none_missing, some_missing}
 use Rattle.conn_core.proofs.Streams.{is_next, none_behind}
 use Rattle.conn_core.proofs.Carrying.{carries_none, carried_on, further, begins_one, still_more}
