@@ -25,7 +25,7 @@ use Rattle.node_core.specs.Node.{Node}
 use Rattle.node_core.specs.Steps.{judge_view, verdict_at, Committed, ended, is_held_by, released}
 use Rattle.node_core.specs.Calls.{IsCall, AreSame, IsAdded, IsTaken, IsMoved, IsPending, IsPendingTaken, Begins, Commits, CommitsUnder, Acquires, Applies, csn_left}
 use Rattle.node_core.proofs.Spares.{CommitLeaves, commit_leaves, ended-spares}
-use Rattle.node_core.proofs.OpenTickets.{CommitLeaves as LeavesTickets, AreKept, kept-refl, ended-now, ended-stale, taken-none, begin-leaves, begin-open, begin-committed, begin-fresh, commit-leaves, commit-open, commit-committed, not_keeper, apply-keeps_tickets}
+use Rattle.node_core.proofs.OpenTickets.{CommitLeaves as LeavesTickets, AreKept, kept-refl, ended-now, ended-stale, taken-none, begin-leaves, begin-open, begin-committed, begin-fresh, commit-leaves, commit-open, commit-committed, apply-keeps_tickets}
 use Rattle.world_core.specs.World.{World, node_of, with_node, node_in}
 use Rattle.world_core.specs.Laws.{IsNode, IsNoTicket}
 use Rattle.world_core.specs.Taken.{IsKept}
@@ -168,7 +168,7 @@ module _ (old new : At) (ticket : NodeTicket) (request : Request) (bound : Ident
   after = record { beside = b; life = commit-life old.world old.n (reached new) ticket request bound now result k i usable calm s }
 
   leaves : LeavesTickets (reached old) (reached new) ticket.csn result
-  leaves = commit-leaves (reached old) (reached new) ticket _ now result (sound-at old.world old.n k i) (usable-open old.world old.n ticket.life ticket.csn k i usable) (not_keeper result calm) s
+  leaves = commit-leaves (reached old) (reached new) ticket _ now result (sound-at old.world old.n k i) (usable-open old.world old.n ticket.life ticket.csn k i usable) s
 
   pub commit-open_at : IsMoved (IsOpenAt old) (IsOpenAt new) ticket.csn (csn_left result)
   commit-open_at =

@@ -27,3 +27,4 @@ pub mod CallsKept
 pub mod AtTickets
 pub mod AtCalls
 pub mod OneWorld
+pub mod Calm

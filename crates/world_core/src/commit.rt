@@ -12,6 +12,7 @@ ghost use Rattle.world_core.specs.Commits.{CommitsHeld};
 ghost use Rattle.world_core.specs.State.{world_of};
 ghost use Rattle.world_core.specs.Taken.{IsKept};
 
+use crate::calm::CalmNode;
 use crate::event::Happened;
 use crate::held::{Held, Stage};
 use crate::nodes::{commit_at, node_at};
@@ -19,7 +20,7 @@ use crate::places::place_of;
 use crate::start::csn_at;
 use crate::state::WorldState;
 use ldap_types::LdapResult;
-use node_core::{CommitFault, NodeState, used_up};
+use node_core::{CommitFault, used_up};
 use repl_data::NoMemory;
 use std::alloc::Global;
 
@@ -62,7 +63,7 @@ fn failed(alloc: Global, life: u64, rid: u16, fault: CommitFault) -> Result<Fail
 /// Commits a ticket that is not committed. It is handed back as the commit leaves it, and where
 /// memory was wanting as it was.
 fn commit_held(
-    nodes: &mut Vec<NodeState>,
+    nodes: &mut Vec<CalmNode>,
     alloc: Global,
     held: Held,
     clock: u32,

@@ -11,16 +11,16 @@ ghost use Rattle.world_core.specs.Laws.{IsNode};
 ghost use Rattle.world_core.specs.State.{world_of};
 ghost use Rattle.world_core.specs.Taken.{IsKept};
 
+use crate::calm::CalmNode;
 use crate::event::Happened;
 use crate::held::{Held, Stage, lose};
 use crate::nodes::{abort_at, settle_at};
 use crate::places::place_of;
 use crate::state::WorldState;
 use ldap_types::LdapResult;
-use node_core::NodeState;
 
 /// Settles or gives up a ticket, and tells the result of its last commit, if that failed.
-fn end_held(nodes: &mut Vec<NodeState>, held: Held) -> Option<LdapResult>
+fn end_held(nodes: &mut Vec<CalmNode>, held: Held) -> Option<LdapResult>
     requires node { IsNode nodes.old.items held.node }
     requires pending { held.life ≡ (node_of nodes.old.items held.node).life → Contains (node_of nodes.old.items held.node).pending held.csn }
     requires open { held.life ≡ (node_of nodes.old.items held.node).life → held.committed ≡ false → IsOpen (node_of nodes.old.items held.node) held.csn }

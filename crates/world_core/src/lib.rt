@@ -2,6 +2,7 @@
 #![tactic(auto)]
 
 mod at;
+mod calm;
 mod commit;
 mod end;
 mod event;

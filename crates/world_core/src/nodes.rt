@@ -6,15 +6,16 @@ ghost use Rattle.node_core.specs.Calls.{Begins, Commits, IsWrite, IsPending, IsP
 ghost use Rattle.world_core.specs.World.{node_of, with_node, nodes_from};
 ghost use Rattle.world_core.specs.Laws.{IsNode};
 
+use crate::calm::CalmNode;
 use ldap_types::{Identity, Request};
 use node_core::{
-    AcquireFault, Applied, ApplyFault, BeginFault, CommitFault, NodeState, Receipt, Start, Ticket,
+    AcquireFault, Applied, ApplyFault, BeginFault, CommitFault, Receipt, Start, Ticket,
 };
 use repl_data::{NoMemory, Suffix, Update};
 use std::alloc::Global;
 
 /// Node `n` draws a CSN.
-pub(crate) fn begin_at(nodes: &mut Vec<NodeState>, n: u16, now: u32) -> Result<Ticket, BeginFault>
+pub(crate) fn begin_at(nodes: &mut Vec<CalmNode>, n: u16, now: u32) -> Result<Ticket, BeginFault>
     requires { IsNode nodes.old.items n }
     ensures step { Begins (node_of nodes.old.items n) now result (node_of nodes.new.items n) }
     ensures memory { result ≢ Err BeginFault.NoMemory }
@@ -25,7 +26,7 @@ pub(crate) fn begin_at(nodes: &mut Vec<NodeState>, n: u16, now: u32) -> Result<T
 
 /// Node `n` commits a ticket.
 pub(crate) fn commit_at(
-    nodes: &mut Vec<NodeState>,
+    nodes: &mut Vec<CalmNode>,
     alloc: Global,
     n: u16,
     ticket: Ticket,
@@ -45,7 +46,7 @@ pub(crate) fn commit_at(
 }
 
 /// Node `n` gives up a ticket.
-pub(crate) fn abort_at(nodes: &mut Vec<NodeState>, n: u16, ticket: Ticket)
+pub(crate) fn abort_at(nodes: &mut Vec<CalmNode>, n: u16, ticket: Ticket)
     requires node { IsNode nodes.old.items n }
     requires open { ticket.life ≡ (node_of nodes.old.items n).life → IsPending (node_of nodes.old.items n) ticket.csn }
     requires uncommitted { ticket.life ≡ (node_of nodes.old.items n).life → IsPendingTaken (node_of nodes.old.items n) ticket.csn → ⊥ }
@@ -55,7 +56,7 @@ pub(crate) fn abort_at(nodes: &mut Vec<NodeState>, n: u16, ticket: Ticket)
 }
 
 /// Node `n` settles a committed change.
-pub(crate) fn settle_at(nodes: &mut Vec<NodeState>, n: u16, receipt: Receipt)
+pub(crate) fn settle_at(nodes: &mut Vec<CalmNode>, n: u16, receipt: Receipt)
     requires node { IsNode nodes.old.items n }
     requires committed { receipt.life ≡ (node_of nodes.old.items n).life → IsPendingTaken (node_of nodes.old.items n) receipt.csn }
     ensures { nodes.new.items ≡ with_node nodes.old.items n (ended (node_of nodes.old.items n) receipt.life receipt.csn) }
@@ -65,7 +66,7 @@ pub(crate) fn settle_at(nodes: &mut Vec<NodeState>, n: u16, receipt: Receipt)
 
 /// Node `n` is acquired.
 pub(crate) fn acquire_at(
-    nodes: &mut Vec<NodeState>,
+    nodes: &mut Vec<CalmNode>,
     n: u16,
     start: &Start,
     now: u32,
@@ -79,7 +80,7 @@ pub(crate) fn acquire_at(
 }
 
 /// Node `n` lets a supplier go.
-pub(crate) fn release_at(nodes: &mut Vec<NodeState>, n: u16, from: u16)
+pub(crate) fn release_at(nodes: &mut Vec<CalmNode>, n: u16, from: u16)
     requires { IsNode nodes.old.items n }
     ensures { nodes.new.items ≡ with_node nodes.old.items n (released (node_of nodes.old.items n) from) }
 {
@@ -88,7 +89,7 @@ pub(crate) fn release_at(nodes: &mut Vec<NodeState>, n: u16, from: u16)
 
 /// An update reaches node `n`.
 pub(crate) fn apply_at(
-    nodes: &mut Vec<NodeState>,
+    nodes: &mut Vec<CalmNode>,
     alloc: Global,
     n: u16,
     from: u16,
@@ -104,7 +105,7 @@ pub(crate) fn apply_at(
 }
 
 /// Node `n`.
-pub(crate) fn node_at(nodes: &[NodeState], n: u16) -> &NodeState
+pub(crate) fn node_at(nodes: &[CalmNode], n: u16) -> &CalmNode
     requires { IsNode nodes.now n }
     ensures { result.now ≡ node_of nodes.now n }
 {
@@ -112,7 +113,7 @@ pub(crate) fn node_at(nodes: &[NodeState], n: u16) -> &NodeState
 }
 
 /// There is a node `n`.
-pub(crate) fn has_node(nodes: &[NodeState], n: u16) -> bool
+pub(crate) fn has_node(nodes: &[CalmNode], n: u16) -> bool
     ensures value { result ≡ (nat_lt 0 n && nat_le n (length nodes.now)) }
     ensures node { IsTrue result ↔ IsNode nodes.now n }
 {
@@ -120,14 +121,14 @@ pub(crate) fn has_node(nodes: &[NodeState], n: u16) -> bool
 }
 
 /// Nodes 1 to `n`.
-pub(crate) fn new_nodes(alloc: Global, n: u16, suffix: &Suffix) -> Result<Vec<NodeState>, NoMemory>
+pub(crate) fn new_nodes(alloc: Global, n: u16, suffix: &Suffix) -> Result<Vec<CalmNode>, NoMemory>
     requires { n < 65535 }
     ensures { IfOk result (λ nodes. nodes.items ≡ nodes_from suffix.now 1 n) }
 {
     let mut nodes = Vec::new(alloc);
     let mut next = n;
     while next > 0 {
-        let node = NodeState::new(alloc, next, suffix)?;
+        let node = CalmNode::new(alloc, next, suffix)?;
         nodes.insert(0, node)?;
         next -= 1;
     }

@@ -10,12 +10,13 @@ ghost use Rattle.world_core.specs.Laws.{IsNode};
 ghost use Rattle.world_core.specs.State.{world_of};
 ghost use Rattle.world_core.specs.Taken.{IsKept};
 
+use crate::calm::CalmNode;
 use crate::event::Happened;
 use crate::nodes::{acquire_at, apply_at, node_at, release_at};
 use crate::parts::{Offered, Session};
 use crate::places::session_place;
 use crate::state::WorldState;
-use node_core::{Applied, ApplyFault, NodeState, Offer, Start};
+use node_core::{Applied, ApplyFault, Offer, Start};
 use repl_data::{Csn, NoMemory, Update};
 use std::alloc::Global;
 use vector_core::Vector;
@@ -44,7 +45,7 @@ fn put_session(sessions: &mut Vec<Session>, a: u16, b: u16, cursor: Vector)
 }
 
 /// How node `a` begins as a supplier.
-fn start_of(alloc: Global, nodes: &[NodeState], a: u16) -> Result<Start, NoMemory>
+fn start_of(alloc: Global, nodes: &[CalmNode], a: u16) -> Result<Start, NoMemory>
     requires { IsNode nodes.now a }
     ensures { IfOk result (λ start. start ≡ record { suffix = (node_of nodes.now a).suffix.name; rid = a; front = vector_of (node_of nodes.now a) }) }
 {

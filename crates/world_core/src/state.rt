@@ -5,17 +5,17 @@ ghost use Rattle.world_core.specs.World.{Ticket, is_node, ticket_in, session_in,
 ghost use Rattle.world_core.specs.Laws.{IsNode};
 ghost use Rattle.world_core.specs.State.{world_of};
 
+use crate::calm::CalmNode;
 use crate::held::Held;
 use crate::nodes::has_node;
 use crate::parts::{Offered, Session};
 use crate::places::{place_of, session_place};
-use node_core::NodeState;
 
 /// The nodes, and what passes between them.
 #[derive(Debug)]
 pub(crate) struct WorldState {
     /// Node `n` stands at place `n` - 1.
-    pub nodes: Vec<NodeState>,
+    pub nodes: Vec<CalmNode>,
     /// In seconds since 1970.
     pub clock: u32,
     /// In rising order of number.
