@@ -5,7 +5,7 @@ use Rattle.std.specs.Char.{to_ascii_lowercase}
 use Rattle.attr_keys.specs.declared.kind.Kind.TheVariants.{Int, Tel, Oct}
 use Rattle.attr_keys.specs.Value.{is_mark, phone_key, prepared, value_key}
 
-lower-again : (b : ℕ) → to_ascii_lowercase (to_ascii_lowercase b) ≡ to_ascii_lowercase b
+pub lower-again : (b : ℕ) → to_ascii_lowercase (to_ascii_lowercase b) ≡ to_ascii_lowercase b
 lower-again b = grind (arith, nat_tests)
 
 lower-mark : (b : ℕ) → is_mark b ≡ false → is_mark (to_ascii_lowercase b) ≡ false

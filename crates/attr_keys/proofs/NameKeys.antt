@@ -11,7 +11,7 @@ use Rattle.attr_keys.specs.declared.name.NameState.{NameState}
 use Rattle.attr_keys.specs.declared.name.NameState.TheVariants.{Start, Word, NewOption, Arc, Zero, Digits}
 use Rattle.attr_keys.specs.Name.{is_digit, is_letter, is_key_char, next_state, may_end, bad_from, bad_name, base_len, base_of, options_of}
 use Rattle.attr_keys.specs.Table.{AttrType, types, type_of, is_named, key_of}
-use Rattle.repl_data.proofs.Bools.{and-left, and-right}
+use Rattle.repl_data.proofs.Bools.{and-left, and-right, either_true}
 use Rattle.attr_keys.proofs.NamesAgain.{found-passes}
 
 -- ---- in lower case
@@ -143,15 +143,11 @@ type-named : (base : List ℕ) (t : AttrType) → type_of base ≡ Some t → is
 unfolding type_of
 type-named base t e = found-named base t types e
 
-or-cases : {P : Type 0} (a b : Bool) → (a || b) ≡ true → (a ≡ true → P) → (b ≡ true → P) → P
-or-cases true b h f g = f refl
-or-cases false b h f g = g h
-
 -- a text that names a type is a word
 named-word : (base : List ℕ) (t : AttrType) → type_of base ≡ Some t → is_word base ≡ true
 named-word base t e =
     let words : has_words t ≡ true = type-words base t e in
-    or-cases (bytes_eq t.name base) (bytes_eq t.other base) (type-named base t e)
+    either_true (bytes_eq t.name base) (bytes_eq t.other base) (type-named base t e)
     (λ h. ap is_word (sym ((bytes_decides t.name base).0 h)) ∙ and-left (is_word t.name) (is_word t.other) words)
     (λ h. ap is_word (sym ((bytes_decides t.other base).0 h)) ∙ and-right (is_word t.name) (is_word t.other) words)
 

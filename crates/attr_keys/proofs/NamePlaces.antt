@@ -3,6 +3,7 @@ use Rattle.std.proofs.Common.{◌≡◌, ℕ, ◌+◌, ◌≤◌, Bool, true, fa
 use Rattle.std.specs.Prelude.{◌==◌, ◌||◌, ◌&&◌}
 use Rattle.std.specs.List.{list_all}
 use Rattle.std.proofs.lemmas.Bool.Decides.{nat_tests}
+use Rattle.repl_data.proofs.Bools.{or_true}
 use Rattle.attr_keys.specs.declared.name.NameState.{NameState}
 use Rattle.attr_keys.specs.declared.name.NameState.TheVariants.{Start, Word, NewOption, Arc, Zero, Digits}
 use Rattle.attr_keys.specs.Name.{is_digit, is_letter, is_key_char, next_state, may_end, bad_from, bad_name}
@@ -51,13 +52,9 @@ in_arc false true d h s p t k e = ap (λ (b : Bool). (b || h) || (s || p)) (k re
 in_arc false false true h s p t k e = refl
 in_arc false false false h s p t k e = cc
 
-or-true : (b : Bool) → (b || true) ≡ true
-or-true true = refl
-or-true false = refl
-
 in_zero : (c dotted s p : Bool) (t : NameState) → cond p (Some Arc) (cond (dotted && s) (Some NewOption) None) ≡ Some t → (c || (s || p)) ≡ true
-in_zero c dotted s true t e = ap (λ (b : Bool). c || b) (or-true s) ∙ or-true c
-in_zero c true true false t e = or-true c
+in_zero c dotted s true t e = ap (λ (b : Bool). c || b) (or_true s) ∙ or_true c
+in_zero c true true false t e = or_true c
 in_zero c true false false t e = cc
 in_zero c false s false t e = cc
 

@@ -8,11 +8,9 @@ use Rattle.std.specs.List.{AllByRecursion, before_first, list_all, prefix_len}
 use Rattle.std.specs.Option.{option_map_or}
 use Rattle.attr_keys.specs.Name.{base_len, base_of, options_of}
 use Rattle.attr_keys.specs.Table.{AttrType, types, type_of, first_name, is_named, key_of, is_single}
+use Rattle.attr_keys.proofs.Again.{lower-again}
 use Rattle.repl_data.specs.Types.{is_among, single_valued}
 use Rattle.repl_data.proofs.Bools.{and-left, and-right, and-both}
-
-lower-again : (b : ℕ) → to_ascii_lowercase (to_ascii_lowercase b) ≡ to_ascii_lowercase b
-lower-again b = grind (arith, nat_tests)
 
 all_lower-again : (bs : List ℕ) → map to_ascii_lowercase (map to_ascii_lowercase bs) ≡ map to_ascii_lowercase bs
 all_lower-again [] = refl

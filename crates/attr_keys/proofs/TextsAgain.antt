@@ -10,7 +10,8 @@ use Rattle.repl_data.specs.Key.{folded, squeezed, without_last_space, trimmed}
 use Rattle.attr_keys.specs.Value.{bad_value, first_or, prepared, value_key}
 use Rattle.repl_data.proofs.TextKeys.{folded-ascii}
 use Rattle.attr_keys.proofs.Texts.{ascii-from_none}
-use Rattle.repl_data.proofs.Bools.{and-left, and-right}
+use Rattle.repl_data.proofs.Bools.{and-left, and-right, cases}
+use Rattle.repl_data.proofs.Sound.{not_true}
 
 -- ---- no space at the front, and no two together
 
@@ -25,14 +26,6 @@ drop_last [] = []
 drop_last (b ∷ []) = cond (b == 32) [] (b ∷ [])
 drop_last (b ∷ c ∷ bs) = b ∷ drop_last (c ∷ bs)
 
-cases : {P : Type 0} (b : Bool) → (b ≡ true → P) → (b ≡ false → P) → P
-cases true f g = f refl
-cases false f g = g refl
-
-not-true : (b : Bool) → not b ≡ true → b ≡ false
-not-true true h = cc
-not-true false h = refl
-
 squeezed-tight : (after : Bool) (xs : List ℕ) → tight after (squeezed after xs) ≡ true
 squeezed-tight after [] = refl
 squeezed-tight after (b ∷ bs) = at (after && (b == 32)) refl (squeezed-tight true bs) (squeezed-tight (b == 32) bs)
@@ -44,7 +37,7 @@ squeezed-tight after (b ∷ bs) = at (after && (b == 32)) refl (squeezed-tight t
 tight-squeezed : (after : Bool) (xs : List ℕ) → tight after xs ≡ true → squeezed after xs ≡ xs
 tight-squeezed after [] h = refl
 tight-squeezed after (b ∷ bs) h =
-    ap (λ (t : Bool). cond t (squeezed true bs) (b ∷ squeezed (b == 32) bs)) (not-true (after && (b == 32)) (and-left (not (after && (b == 32))) (tight (b == 32) bs) h))
+    ap (λ (t : Bool). cond t (squeezed true bs) (b ∷ squeezed (b == 32) bs)) (not_true (after && (b == 32)) (and-left (not (after && (b == 32))) (tight (b == 32) bs) h))
     ∙ ap (λ (xs : List ℕ). b ∷ xs) (tight-squeezed (b == 32) bs (and-right (not (after && (b == 32))) (tight (b == 32) bs) h))
 
 -- one way to write what `without_last_space` computes to
@@ -87,7 +80,7 @@ dropped-again after (b ∷ c ∷ []) h =
     (λ t.
     let e : drop_last (b ∷ c ∷ []) ≡ b ∷ [] = ap (λ (v : Bool). b ∷ cond v [] (c ∷ [])) t in
     let rest : tight (b == 32) (c ∷ []) ≡ true = and-right (not (after && (b == 32))) (tight (b == 32) (c ∷ [])) h in
-    let apart : ((b == 32) && (c == 32)) ≡ false = not-true ((b == 32) && (c == 32)) (and-left (not ((b == 32) && (c == 32))) true rest) in
+    let apart : ((b == 32) && (c == 32)) ≡ false = not_true ((b == 32) && (c == 32)) (and-left (not ((b == 32) && (c == 32))) true rest) in
     let other : (b == 32) ≡ false = left-false (b == 32) (c == 32) t apart in
     ap drop_last e ∙ ap (λ (v : Bool). cond v [] (b ∷ [])) other ∙ sym e)
     (λ f. let e : drop_last (b ∷ c ∷ []) ≡ b ∷ c ∷ [] = ap (λ (v : Bool). b ∷ cond v [] (c ∷ [])) f in ap drop_last e)

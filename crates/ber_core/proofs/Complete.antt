@@ -77,7 +77,7 @@ not_at_end w front others h some = ne_eqb w.left 0 (λ z. let l = h.left in let 
 
 -- ---- an element
 
-tag_first : (start at left tag : ℕ) (more : List ℕ) → 2 ≤ left → IsTag tag → tag_in start at left (tag ∷ more) ≡ Ok tag
+pub tag_first : (start at left tag : ℕ) (more : List ℕ) → 2 ≤ left → IsTag tag → tag_in start at left (tag ∷ more) ≡ Ok tag
 unfolding tag_in
 tag_first start at zero tag more two t = absurd (omega arith)
 tag_first start at (suc zero) tag more two t = absurd (omega arith)

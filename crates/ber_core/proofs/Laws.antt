@@ -24,10 +24,10 @@ header_from_element whole body tag e = (tag ∷ e.len, record { len = e.len; par
 
 -- ---- bytes that have the form of a header
 
-cond_is_true : (a b x y : ℕ) → a < b → cond (ltb a b) x y ≡ x
+pub cond_is_true : (a b x y : ℕ) → a < b → cond (ltb a b) x y ≡ x
 cond_is_true a b x y lt = grind (arith, nat_tests)
 
-cond_is_false : (a b x y : ℕ) → b ≤ a → cond (ltb a b) x y ≡ y
+pub cond_is_false : (a b x y : ℕ) → b ≤ a → cond (ltb a b) x y ≡ y
 cond_is_false a b x y le = grind (arith, nat_tests)
 
 form_says : (tag b : ℕ) (digits : List ℕ) → form_of (tag ∷ b ∷ digits) ≡ Ok tt → IsTag tag × (b ≢ 128) × (b < 137)

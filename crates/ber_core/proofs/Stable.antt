@@ -12,7 +12,7 @@ use Rattle.ber_core.specs.declared.read.Header.{Header}
 use Rattle.ber_core.specs.Number.{integer_of, boolean_of}
 use Rattle.ber_core.specs.Reading.{form_of, digit_count, least_size, header_of, header_size, header_within, if_fine, header_at}
 use Rattle.ber_core.proofs.Digits.{least_number_grows}
-use Rattle.ber_core.proofs.Laws.{header_takes, header_found, header_again}
+use Rattle.ber_core.proofs.Laws.{header_takes, header_found, header_again, cond_is_true, cond_is_false}
 use Rattle.ber_core.specs.Number.{least_number}
 use Rattle.ber_core.specs.declared.fault.NotLdapWhy.{NotLdapWhy}
 use Rattle.ber_core.specs.declared.fault.NotLdapWhy.TheVariants as why
@@ -22,12 +22,6 @@ use Rattle.ber_core.specs.Window.{Stop, Fault, More, Window, Reading, ◌>>=◌,
 
 less : (a b : ℕ) → a < b → ltb a b ≡ true
 less a b lt = grind (arith, nat_tests)
-
-cond_is_true : (a b x y : ℕ) → a < b → cond (ltb a b) x y ≡ x
-cond_is_true a b x y lt = grind (arith, nat_tests)
-
-cond_is_false : (a b x y : ℕ) → b ≤ a → cond (ltb a b) x y ≡ y
-cond_is_false a b x y le = grind (arith, nat_tests)
 
 least_grows : (tag b : ℕ) (digits more : List ℕ) → least_size (tag ∷ b ∷ digits) ≤ least_size (tag ∷ b ∷ (digits ++ more))
 least_grows tag b digits more =

@@ -2,14 +2,19 @@
 
 use case_changes::tell_uid;
 use case_lines::{CaseFault, tell_text};
-use repl_data::{ShownEntry, Uid};
+use repl_data::{Shown, ShownEntry, Uid};
 use std::str;
 
 /// Appends the printed name of the entry, and each value behind its attribute's name.
 pub fn tell_entry(told: &mut String, entry: &ShownEntry) -> Result<(), CaseFault> {
     told.push_str("dn ")?;
     tell_text(told, entry.dn.as_slice())?;
-    for shown in entry.attrs.as_slice() {
+    tell_attrs(told, entry.attrs.as_slice())
+}
+
+/// Appends each value behind its attribute's name.
+pub fn tell_attrs(told: &mut String, attrs: &[Shown]) -> Result<(), CaseFault> {
+    for shown in attrs {
         let Ok(name) = str::from_utf8(shown.attr.name.as_slice()) else {
             return Err(CaseFault::Argument);
         };

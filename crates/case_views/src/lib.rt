@@ -4,5 +4,5 @@
 mod entry;
 mod taken;
 
-pub use entry::{tell_entries, tell_entry, tell_optional_uid, tell_uids};
+pub use entry::{tell_attrs, tell_entries, tell_entry, tell_optional_uid, tell_uids};
 pub use taken::{Taken, example_suffix};

@@ -24,12 +24,8 @@ use Rattle.dn_text.specs.Escape.{is_special, is_refused, hex_digit, hex_byte, on
 use Rattle.dn_text.specs.Reading.{attr_in, begins_hash, keyed, named, value_in, has_attr, beside, part_in, without_equals, put_part, parts_in, rdn_in, rdns_in, dn_in}
 use Rattle.dn_text.specs.Spelling.{spaces, SpellsBytes, no_more, plain, escaped, digits, SpellsPart, SpellsParts, no_part, one_more, cut_at, SpellsRdn, SpellsRdns, SpellsName}
 use Rattle.dn_text.proofs.Pieces.{bare_len-first, bare_len-later}
-use Rattle.repl_data.proofs.Bools.{and-right}
+use Rattle.repl_data.proofs.Bools.{and-right, cases}
 use Rattle.dn_text.proofs.Spelled.{same-number, pick-true, pick-false, kept-cons, kept-nil, space_count-cons, space_count-nil, value-cons, parts-cons, parts-nil, texts_of, pieces-texts, name-read}
-
-pub cases : {P : Type 0} (b : Bool) → (b ≡ true → P) → (b ≡ false → P) → P
-cases true f g = f refl
-cases false f g = g refl
 
 ok-same : {A : Type 0} (x y : A) → (let r : Result A DnFault = Ok x in r) ≡ Ok y → x ≡ y
 ok-same x y e = cc

@@ -6,14 +6,14 @@ use Rattle.std.proofs.lemmas.Bool.{false≢true}
 use Rattle.std.proofs.lemmas.Bool.Decides.{nat_tests}
 use Rattle.hex.specs.Hex.{lower_digits, encode_with, encode_lower}
 use Rattle.repl_data.specs.Text.{escape_always, escape_as_hex, escaped, escaped_rest, escaped_value}
+use Rattle.repl_data.proofs.Bools.{cases, either_true, or-left, or-right}
 use Rattle.dn_text.specs.Split.{bare_len, space_count, kept_from, kept_len}
 use Rattle.dn_text.specs.Escape.{is_special, is_refused, hex_digit, hex_byte, pair_value}
 use Rattle.dn_text.specs.Reading.{begins_hash}
 use Rattle.dn_text.specs.Spelling as spelling
 use Rattle.dn_text.specs.Spelling.{SpellsBytes, SpellsValue}
 use Rattle.dn_text.proofs.Pieces.{bare_len-later}
-use Rattle.dn_text.proofs.Spelled.{same-number, pick-true, pick-false, kept-cons, kept-nil, space_count-cons, space_count-nil, eqb-other, or-cases, none-at, low-digit}
-use Rattle.dn_text.proofs.Found.{cases}
+use Rattle.dn_text.proofs.Spelled.{same-number, pick-true, pick-false, kept-cons, kept-nil, space_count-cons, space_count-nil, eqb-other, none-at, low-digit}
 
 -- ---- hexadecimal digits
 
@@ -54,14 +54,6 @@ pair-of b h =
     let low : b % 16 < 16 = omega arith in
     let sum : 16 * (b / 16) + b % 16 ≡ b = omega arith in
     ap₂ pair_value (digit-at (b / 16) high) (digit-at (b % 16) low) ∙ ap Some sum
-
-or-left : (a b : Bool) → (a || b) ≡ false → a ≡ false
-or-left true b h = h
-or-left false b h = refl
-
-or-right : (a b : Bool) → (a || b) ≡ false → b ≡ false
-or-right true b h = cc
-or-right false b h = h
 
 -- ---- a printed value
 
@@ -175,13 +167,13 @@ printed-kept n k text bytes (as_digits x y b (c ∷ cs) more h p) never =
 
 always-special : (b : ℕ) → escape_always b ≡ true → is_special b ≡ true
 always-special b h =
-    or-cases (b == 34) _ h (at 34 refl)
-    (λ h. or-cases (b == 43) _ h (at 43 refl)
-    (λ h. or-cases (b == 44) _ h (at 44 refl)
-    (λ h. or-cases (b == 59) _ h (at 59 refl)
-    (λ h. or-cases (b == 60) _ h (at 60 refl)
-    (λ h. or-cases (b == 62) _ h (at 62 refl)
-    (λ h. or-cases (b == 92) _ h (at 92 refl) (λ h. absurd (false≢true h))))))))
+    either_true (b == 34) _ h (at 34 refl)
+    (λ h. either_true (b == 43) _ h (at 43 refl)
+    (λ h. either_true (b == 44) _ h (at 44 refl)
+    (λ h. either_true (b == 59) _ h (at 59 refl)
+    (λ h. either_true (b == 60) _ h (at 60 refl)
+    (λ h. either_true (b == 62) _ h (at 62 refl)
+    (λ h. either_true (b == 92) _ h (at 92 refl) (λ h. absurd (false≢true h))))))))
   where
     at : (k : ℕ) → is_special k ≡ true → (b == k) ≡ true → is_special b ≡ true
     at k e h = ap is_special (same-number b k h) ∙ e
@@ -199,7 +191,7 @@ printed-cons edge b rest bytes special last p =
     cases (escape_always b || edge)
     (λ k.
     let text : escaped edge b ≡ 92 ∷ b ∷ [] = pick-false (escape_as_hex b) _ _ h ∙ pick-true (escape_always b || edge) _ _ k in
-    subst (λ (t : List ℕ). Printed (t ++ rest) (b ∷ bytes)) (sym text) (behind_slash b rest bytes (or-cases (escape_always b) edge k (always-special b) special) p))
+    subst (λ (t : List ℕ). Printed (t ++ rest) (b ∷ bytes)) (sym text) (behind_slash b rest bytes (either_true (escape_always b) edge k (always-special b) special) p))
     (λ k.
     let text : escaped edge b ≡ b ∷ [] = pick-false (escape_as_hex b) _ _ h ∙ pick-false (escape_always b || edge) _ _ k in
     let no_edge : edge ≡ false = or-right (escape_always b) edge k in
@@ -224,7 +216,7 @@ printed-rest (b ∷ c ∷ bs) =
     printed-cons false b (escaped_rest (c ∷ bs)) (c ∷ bs) (λ h. absurd (false≢true h)) (λ e h. absurd (printed-some (escaped_rest (c ∷ bs)) bs c (printed-rest (c ∷ bs)) e)) (printed-rest (c ∷ bs))
 
 front-special : (b : ℕ) → ((b == 32) || (b == 35)) ≡ true → is_special b ≡ true
-front-special b h = or-cases (b == 32) (b == 35) h (λ k. ap is_special (same-number b 32 k)) (λ k. ap is_special (same-number b 35 k))
+front-special b h = either_true (b == 32) (b == 35) h (λ k. ap is_special (same-number b 32 k)) (λ k. ap is_special (same-number b 35 k))
 
 printed-value : (bs : List ℕ) → Printed (escaped_value bs) bs
 printed-value [] = ends

@@ -10,6 +10,7 @@ use Rattle.std.specs.Ordering.{nat_cmp, is_lt, is_eq, ordering_reverse}
 use Rattle.std.specs.Cmp.Lexicographic.{slice_cmp}
 use Rattle.repl_data.specs.declared.change.Ava.{Ava}
 use Rattle.repl_data.specs.declared.change.Rdn.{Rdn}
+use Rattle.repl_data.proofs.Bools.{cases, or-left, or-right}
 use Rattle.attr_keys.specs.Name.{bad_name}
 use Rattle.attr_keys.specs.Table.{key_of}
 use Rattle.attr_keys.proofs.NameKeys.{key_of-good}
@@ -22,7 +23,7 @@ use Rattle.dn_text.specs.Spelling.{SpellsPart, SpellsParts, no_part, one_more, c
 use Rattle.dn_text.specs.Laws.{IsReadablePart, IsBelowAll, AreReadableParts, AreReadable, IsReadable}
 use Rattle.dn_text.proofs.Pieces.{span}
 use Rattle.dn_text.proofs.Spelled.{texts_of, pick-true, pick-false}
-use Rattle.dn_text.proofs.Found.{cases, name-found}
+use Rattle.dn_text.proofs.Found.{name-found}
 use Rattle.dn_text.proofs.Rising.{below-trans}
 use Rattle.dn_text.proofs.RoundTrip.{printed-read}
 
@@ -50,14 +51,6 @@ before-from a b h k =
     flip Less p e h k = absurd (false≢true (sym h))
     flip Equal p e h k = absurd (false≢true (sym k ∙ ap is_eq e))
     flip Greater p e h k = ap is_lt e
-
-or-left : (a b : Bool) → (a || b) ≡ false → a ≡ false
-or-left true b h = h
-or-left false b h = refl
-
-or-right : (a b : Bool) → (a || b) ≡ false → b ≡ false
-or-right true b h = cc
-or-right false b h = h
 
 put-readable : (a : Ava) (bs : List Ava) → IsReadablePart a → AreReadableParts bs → has_attr a.attr.name bs ≡ false → AreReadableParts (put_part a bs)
 put-readable a [] r h k = (r, tt, tt)

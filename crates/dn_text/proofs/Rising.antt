@@ -10,6 +10,8 @@ use Rattle.std.specs.declared.cmp.Ordering.TheVariants.{Less, Equal, Greater}
 use Rattle.std.specs.Ordering.{nat_cmp, is_lt, is_eq, ordering_reverse}
 use Rattle.std.specs.Cmp.Lexicographic.{slice_cmp}
 use Rattle.repl_data.specs.declared.change.Ava.{Ava}
+use Rattle.repl_data.proofs.KeyPlaces.{is_less}
+use Rattle.repl_data.proofs.Bools.{and-left, and-right}
 use Rattle.dn_text.specs.Reading.{comes_before, place_among, put_part, has_attr}
 use Rattle.dn_text.specs.Print.{is_rising, put_all}
 use Rattle.dn_text.specs.Laws.{IsBelowAll, AreReadableParts}
@@ -87,33 +89,20 @@ rising-from_readable (a ∷ more) h = (h.1, rising-from_readable more h.2)
 
 -- ---- the test
 
-lt-less : (o : Ordering) → is_lt o ≡ true → o ≡ Less
-lt-less Less h = refl
-lt-less Equal h = absurd (false≢true h)
-lt-less Greater h = absurd (false≢true h)
-
 pub before-trans : (a b c : Ava) → comes_before a b ≡ true → comes_before b c ≡ true → comes_before a c ≡ true
 before-trans a b c h k =
-    ap is_lt (nat_list_cmp_total.trans a.attr.name b.attr.name c.attr.name (lt-less (slice_cmp nat_cmp a.attr.name b.attr.name) h) (lt-less (slice_cmp nat_cmp b.attr.name c.attr.name) k))
+    ap is_lt (nat_list_cmp_total.trans a.attr.name b.attr.name c.attr.name (is_less (slice_cmp nat_cmp a.attr.name b.attr.name) h) (is_less (slice_cmp nat_cmp b.attr.name c.attr.name) k))
 
 pub below-trans : (a b : Ava) (more : List Ava) → comes_before a b ≡ true → IsBelowAll b more → IsBelowAll a more
 below-trans a b [] h k = tt
 below-trans a b (c ∷ more) h k = (before-trans a b c h k.0, below-trans a b more h k.1)
 
-and-first : (a b : Bool) → (a && b) ≡ true → a ≡ true
-and-first true b h = refl
-and-first false b h = h
-
-and-second : (a b : Bool) → (a && b) ≡ true → b ≡ true
-and-second true b h = h
-and-second false b h = cc
-
 rising-from_test : (avas : List Ava) → is_rising avas ≡ true → AreRising avas
 rising-from_test [] h = tt
 rising-from_test (a ∷ []) h = (tt, tt)
 rising-from_test (a ∷ b ∷ more) h =
-    let first : comes_before a b ≡ true = and-first (comes_before a b) (is_rising (b ∷ more)) h in
-    let rest : AreRising (b ∷ more) = rising-from_test (b ∷ more) (and-second (comes_before a b) (is_rising (b ∷ more)) h) in
+    let first : comes_before a b ≡ true = and-left (comes_before a b) (is_rising (b ∷ more)) h in
+    let rest : AreRising (b ∷ more) = rising-from_test (b ∷ more) (and-right (comes_before a b) (is_rising (b ∷ more)) h) in
     ((first, below-trans a b more first rest.0), rest)
 
 -- parts that pass the test stand in order

@@ -4,6 +4,7 @@ use Rattle.std.specs.Prelude.{◌&&◌}
 use Rattle.std.proofs.lemmas.List.{drop_more, drop_all}
 use Rattle.repl_data.specs.declared.change.Ava.{Ava}
 use Rattle.repl_data.specs.declared.change.Rdn.{Rdn}
+use Rattle.repl_data.proofs.Bools.{and_false}
 use Rattle.dn_text.specs.Below.{is_same_part, are_same_parts, are_same_rdns}
 
 -- ---- parts
@@ -27,10 +28,6 @@ pub parts-end : (at : ℕ) (a b : List Ava) → length a ≤ at → length a ≡
 unfolding are_same_parts
 parts-end at a b h k = let le : length b ≤ at = omega arith in ap₂ are_same_parts (drop_all at a h) (drop_all at b le)
 
-and-false : (t : Bool) → (t && false) ≡ false
-and-false true = refl
-and-false false = refl
-
 longer : {m n : ℕ} → m ≡ n → suc m ≡ suc n
 longer e = ap suc e
 
@@ -41,7 +38,7 @@ parts-lengths [] (y ∷ ys) h = refl
 parts-lengths (x ∷ xs) [] h = refl
 parts-lengths (x ∷ xs) (y ∷ ys) h =
     let never : length xs ≢ length ys = λ e. h (longer e) in
-    ap (λ (t : Bool). is_same_part x y && t) (parts-lengths xs ys never) ∙ and-false (is_same_part x y)
+    ap (λ (t : Bool). is_same_part x y && t) (parts-lengths xs ys never) ∙ and_false (is_same_part x y)
 
 -- ---- RDNs
 

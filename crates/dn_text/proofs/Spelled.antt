@@ -23,7 +23,8 @@ use Rattle.dn_text.specs.Escape.{is_special, is_refused, hex_digit, pair_value, 
 use Rattle.dn_text.specs.Reading.{attr_in, begins_hash, keyed, named, value_in, has_attr, beside, part_in, put_part, parts_in, rdn_in, rdns_in, dn_in}
 use Rattle.dn_text.specs.Spelling.{spaces, SpellsBytes, no_more, plain, escaped, digits, SpellsValue, SpellsPart, SpellsParts, no_part, one_more, cut_at, SpellsRdn, SpellsRdns, SpellsName}
 use Rattle.dn_text.proofs.Pieces.{span, bare_len-first, bare_len-later}
-use Rattle.repl_data.proofs.Bools.{and-left, and-right}
+use Rattle.repl_data.proofs.Bools.{and-left, and-right, either_true}
+use Rattle.repl_data.proofs.Sound.{not_true}
 
 pub pick-true : {A : Type 0} (b : Bool) (x y : A) → b ≡ true → cond b x y ≡ x
 pick-true b x y h = ap (λ (v : Bool). cond v x y) h
@@ -48,10 +49,6 @@ unfolding value_from
 value-nil at = refl
 
 -- a digit is no special byte
-pub or-cases : {P : Type 0} (a b : Bool) → (a || b) ≡ true → (a ≡ true → P) → (b ≡ true → P) → P
-or-cases true b h f g = f refl
-or-cases false b h f g = g h
-
 pub same-number : (m n : ℕ) → eqb m n ≡ true → m ≡ n
 same-number m n h = grind (arith, nat_tests)
 
@@ -60,15 +57,15 @@ none-at c k e h = ap hex_digit (same-number c k h) ∙ e
 
 apart : (c : ℕ) → is_special c ≡ true → hex_digit c ≡ None
 apart c h =
-    or-cases _ (c == 35) h
-    (λ h. or-cases _ (c == 32) h
-    (λ h. or-cases _ (c == 61) h
-    (λ h. or-cases _ (c == 92) h
-    (λ h. or-cases _ (c == 62) h
-    (λ h. or-cases _ (c == 60) h
-    (λ h. or-cases _ (c == 59) h
-    (λ h. or-cases _ (c == 44) h
-    (λ h. or-cases (c == 34) (c == 43) h (none-at c 34 refl) (none-at c 43 refl))
+    either_true _ (c == 35) h
+    (λ h. either_true _ (c == 32) h
+    (λ h. either_true _ (c == 61) h
+    (λ h. either_true _ (c == 92) h
+    (λ h. either_true _ (c == 62) h
+    (λ h. either_true _ (c == 60) h
+    (λ h. either_true _ (c == 59) h
+    (λ h. either_true _ (c == 44) h
+    (λ h. either_true (c == 34) (c == 43) h (none-at c 34 refl) (none-at c 43 refl))
     (none-at c 44 refl))
     (none-at c 59 refl))
     (none-at c 60 refl))
@@ -255,16 +252,12 @@ name-back name h = kept-name 0 name h ∙ zero-add (length name)
 abbrev pub is_plain : ℕ → ℕ → Bool
 is_plain by c = not (eqb c by) && not (eqb c 92)
 
-not-true : (b : Bool) → not b ≡ true → b ≡ false
-not-true true h = cc
-not-true false h = refl
-
 pub bare-skip : (by : ℕ) (xs ys : List ℕ) → list_all (is_plain by) xs ≡ true → bare_len by false (xs ++ ys) ≡ length xs + bare_len by false ys
 bare-skip by [] ys h = sym (zero-add (bare_len by false ys))
 bare-skip by (c ∷ cs) ys h =
     let first : is_plain by c ≡ true = and-left (is_plain by c) (list_all (is_plain by) cs) h in
-    let not_by : eqb c by ≡ false = not-true (eqb c by) (and-left (not (eqb c by)) (not (eqb c 92)) first) in
-    let not_slash : eqb c 92 ≡ false = not-true (eqb c 92) (and-right (not (eqb c by)) (not (eqb c 92)) first) in
+    let not_by : eqb c by ≡ false = not_true (eqb c by) (and-left (not (eqb c by)) (not (eqb c 92)) first) in
+    let not_slash : eqb c 92 ≡ false = not_true (eqb c 92) (and-right (not (eqb c by)) (not (eqb c 92)) first) in
     let p : length cs + bare_len by false ys + 1 ≡ length (c ∷ cs) + bare_len by false ys = omega arith in
     bare_len-later by false c (cs ++ ys) not_by
     ∙ ap (λ (f : Bool). bare_len by f (cs ++ ys) + 1) not_slash

@@ -3,24 +3,9 @@ use Rattle.std.proofs.Common.{◌≡◌, ℕ, zero, suc, Bool, true, false, ◌&
 use Rattle.std.specs.List.{list_any, starts_with, ends_with}
 use Rattle.std.proofs.lemmas.List.{drop_more, take_all}
 use Rattle.std.specs.Cmp.Lexicographic.{as_long, pointwise}
+use Rattle.repl_data.proofs.Bools.{either_second, either_true, and-right, or_false}
 use Rattle.filter_truth.specs.Pieces.{tails, begins, in_order}
 use Rattle.filter_truth.specs.Behind.{behind, behind_first}
-
-either_front : (a b : Bool) → a ≡ true → (a || b) ≡ true
-either_front true b h = refl
-either_front false b h = let e : false ≡ true = h in cc
-
-either_back : (a b : Bool) → b ≡ true → (a || b) ≡ true
-either_back true b h = refl
-either_back false b h = h
-
-either_of : {G : Type 0} (a b : Bool) → (a || b) ≡ true → (a ≡ true → G) → (b ≡ true → G) → G
-either_of true b h p q = p refl
-either_of false b h p q = q h
-
-second_of_both : (a b : Bool) → (a && b) ≡ true → b ≡ true
-second_of_both true b h = h
-second_of_both false b h = let e : false ≡ true = h in cc
 
 -- what is in order is in order behind one byte more
 one_more : (pieces : List (List ℕ)) (last : List ℕ) (x : ℕ) (text : List ℕ) → in_order pieces last text ≡ true → in_order pieces last (x ∷ text) ≡ true
@@ -30,7 +15,7 @@ one_more [] last x text h =
     let e : suc (length text) - length last ≡ suc (length text - length last) = omega arith in
     ap (λ n. pointwise nat_eq last (drop n (x ∷ text))) e ∙ h
 one_more (piece ∷ pieces) last x text h =
-    either_back (begins (x ∷ text) piece && in_order pieces last (drop (length piece) (x ∷ text))) (in_order (piece ∷ pieces) last text) h
+    either_second (begins (x ∷ text) piece && in_order pieces last (drop (length piece) (x ∷ text))) (in_order (piece ∷ pieces) last text) h
 
 -- and where fewer bytes are dropped
 dropped_more : (pieces : List (List ℕ)) (last : List ℕ) (n x : ℕ) (text : List ℕ) → in_order pieces last (drop n text) ≡ true → in_order pieces last (drop n (x ∷ text)) ≡ true
@@ -42,12 +27,12 @@ dropped_more pieces last (suc n) x (y ∷ text) h = dropped_more pieces last n y
 -- a piece that stands later is no better than one that stands at the front
 later : (piece : List ℕ) (pieces : List (List ℕ)) (last : List ℕ) (x : ℕ) (text : List ℕ) → in_order (piece ∷ pieces) last text ≡ true → in_order pieces last (drop (length piece) (x ∷ text)) ≡ true
 later piece pieces last x [] h =
-    either_of (begins [] piece && in_order pieces last (drop (length piece) [])) false h
-    (λ e. dropped_more pieces last (length piece) x [] (second_of_both (begins [] piece) _ e))
+    either_true (begins [] piece && in_order pieces last (drop (length piece) [])) false h
+    (λ e. dropped_more pieces last (length piece) x [] (and-right (begins [] piece) _ e))
     (λ e. let f : false ≡ true = e in cc)
 later piece pieces last x (y ∷ text) h =
-    either_of (begins (y ∷ text) piece && in_order pieces last (drop (length piece) (y ∷ text))) (in_order (piece ∷ pieces) last text) h
-    (λ e. dropped_more pieces last (length piece) x (y ∷ text) (second_of_both (begins (y ∷ text) piece) _ e))
+    either_true (begins (y ∷ text) piece && in_order pieces last (drop (length piece) (y ∷ text))) (in_order (piece ∷ pieces) last text) h
+    (λ e. dropped_more pieces last (length piece) x (y ∷ text) (and-right (begins (y ∷ text) piece) _ e))
     (λ e. dropped_more pieces last (length piece) x (y ∷ text) (later piece pieces last y text e))
 
 abbrev pub or_not : Option (List ℕ) → (List ℕ → Bool) → Bool
@@ -59,10 +44,6 @@ absorbed true b h = refl
 absorbed false true h = sym (h refl)
 absorbed false false h = refl
 
-nothing_more : (a : Bool) → (a || false) ≡ a
-nothing_more true = refl
-nothing_more false = refl
-
 both_or_not : (b : Bool) (rest : List ℕ) (p : List ℕ → Bool) → (b && p rest) ≡ or_not (cond b (Some rest) None) p
 both_or_not true rest p = refl
 both_or_not false rest p = refl
@@ -70,7 +51,7 @@ both_or_not false rest p = refl
 -- the first place decides
 pub first_place : (piece : List ℕ) (pieces : List (List ℕ)) (last text : List ℕ) → in_order (piece ∷ pieces) last text ≡ or_not (behind_first text piece) (in_order pieces last)
 first_place piece pieces last [] =
-    nothing_more (begins [] piece && in_order pieces last (drop (length piece) []))
+    or_false (begins [] piece && in_order pieces last (drop (length piece) []))
     ∙ both_or_not (begins [] piece) (drop (length piece) []) (in_order pieces last)
 first_place piece pieces last (x ∷ text) = by (begins (x ∷ text) piece) (first_place piece pieces last text)
   where

@@ -20,7 +20,8 @@ use Rattle.repl_data.specs.View.{DirectoryView, PresentEntry, present_at, presen
 use Rattle.repl_data.specs.Lent.{own_of, standing, standing_of}
 use Rattle.repl_data.proofs.InOrder.{is_equal}
 use Rattle.repl_data.proofs.Orders.{bytes_total, bytes_exact, uid_exact}
-use Rattle.repl_data.proofs.KeyPlaces.{is_same}
+use Rattle.repl_data.proofs.KeyPlaces.{is_same, same_turned}
+use Rattle.repl_data.proofs.Bools.{or_false, either_again, either_turned}
 use Rattle.filter_truth.specs.declared.test.Test.{Test}
 use Rattle.filter_truth.specs.declared.test.Test.TheVariants.{Any, Compares, Pieces}
 use Rattle.filter_truth.specs.declared.test.Assertion.{Assertion}
@@ -30,9 +31,6 @@ use Rattle.filter_truth.specs.Lent.{attrs_of, shown_at, lost_of, looks, looks_at
 
 -- ---- texts
 
-same_text : (k : List ℕ) → bytes_eq k k ≡ true
-same_text k = ap is_eq (tied_itself bytes_total k)
-
 equal_from : (a b : List ℕ) → a ≡ b → bytes_cmp a b ≡ Equal
 equal_from a b e = ap (λ x. bytes_cmp x b) e ∙ tied_itself bytes_total b
 
@@ -40,13 +38,6 @@ is_eq-reverse : (o : Ordering) → is_eq (ordering_reverse o) ≡ is_eq o
 is_eq-reverse Less = refl
 is_eq-reverse Equal = refl
 is_eq-reverse Greater = refl
-
-turned : (a b : List ℕ) → bytes_eq a b ≡ bytes_eq b a
-turned a b = ap is_eq (bytes_total.antisymm a b) ∙ is_eq-reverse (bytes_cmp b a)
-
-nothing_more : (a : Bool) → (a || false) ≡ a
-nothing_more true = refl
-nothing_more false = refl
 
 -- ---- lists in order of a key
 
@@ -83,19 +74,9 @@ module _ {X : Type 0} (key : X → List ℕ) where
       by Greater e more = ap (λ r. cond (has k y) (Some y) r) more ∙ passed (has k x) (has k y) (both_ways e)
 
   -- the first one of a key is found among all in order
-  find_in_order : (k : List ℕ) (xs : List X) → find (has k) (in_order_by key bytes_cmp xs) ≡ find (has k) xs
+  pub find_in_order : (k : List ℕ) (xs : List X) → find (has k) (in_order_by key bytes_cmp xs) ≡ find (has k) xs
   find_in_order k [] = refl
   find_in_order k (x ∷ xs) = find_put k x (in_order_by key bytes_cmp xs) ∙ ap (λ r. cond (has k x) (Some x) r) (find_in_order k xs)
-
-  either_again : (a b : Bool) → (a || b) ≡ (a || (a || b))
-  either_again true b = refl
-  either_again false b = refl
-
-  either_turned : (a b c : Bool) → (b || (a || c)) ≡ (a || (b || c))
-  either_turned true true c = refl
-  either_turned true false c = refl
-  either_turned false true c = refl
-  either_turned false false c = refl
 
   -- keys among which one is put
   any_put : (test : List ℕ → Bool) (x : X) (ys : List X) → list_any (λ y. test (key y)) (put_by key bytes_cmp x ys) ≡ (test (key x) || list_any (λ y. test (key y)) ys)
@@ -115,7 +96,7 @@ module _ {X : Type 0} (key : X → List ℕ) where
 
 -- ---- attributes
 
-abbrev attr_name : Attr → List ℕ
+abbrev pub attr_name : Attr → List ℕ
 attr_name a = a.attr.name
 
 abbrev own_vals : Option Attr → List Val
@@ -138,13 +119,13 @@ vals_user (Some a) = refl
 none_later : (k : List ℕ) (a : Attr) (attrs : List Attr) → bytes_eq k a.attr.name ≡ true → AllByRecursion (λ (b : Attr). bytes_cmp a.attr.name b.attr.name ≡ Less) attrs → vals_at k attrs ≡ []
 none_later k a [] e h = refl
 none_later k a (b ∷ attrs) e h =
-    ap (λ c. cond c b.vals [] ++ vals_at k attrs) (turned b.attr.name k ∙ ap (λ (n : List ℕ). bytes_eq n b.attr.name) (is_same k a.attr.name e) ∙ ap is_eq h.0)
+    ap (λ c. cond c b.vals [] ++ vals_at k attrs) (same_turned b.attr.name k ∙ ap (λ (n : List ℕ). bytes_eq n b.attr.name) (is_same k a.attr.name e) ∙ ap is_eq h.0)
     ∙ none_later k a attrs e h.1
 
 -- attributes that rise have one of a name at most
 one_at : (k : List ℕ) (attrs : List Attr) → Rises attr_name attrs → vals_at k attrs ≡ own_vals (find (λ (a : Attr). bytes_eq k a.attr.name) attrs)
 one_at k [] r = refl
-one_at k (a ∷ attrs) r = ap (λ c. cond c a.vals [] ++ vals_at k attrs) (turned a.attr.name k) ∙ by (bytes_eq k a.attr.name) refl (one_at k attrs r.1)
+one_at k (a ∷ attrs) r = ap (λ c. cond c a.vals [] ++ vals_at k attrs) (same_turned a.attr.name k) ∙ by (bytes_eq k a.attr.name) refl (one_at k attrs r.1)
   where
     by : (b : Bool) → bytes_eq k a.attr.name ≡ b → vals_at k attrs ≡ own_vals (find (λ (c : Attr). bytes_eq k c.attr.name) attrs)
         → cond b a.vals [] ++ vals_at k attrs ≡ own_vals (cond b (Some a) (find (λ (c : Attr). bytes_eq k c.attr.name) attrs))
@@ -155,21 +136,21 @@ shows_own : (attrs : List Attr) (k : List ℕ) (test : List ℕ → Bool) → sh
 shows_own attrs k test = ap (λ o. list_any (λ (v : Val). test v.key) (vals_of o)) (find_user k attrs) ∙ ap (list_any (λ (v : Val). test v.key)) (vals_user (find (λ (a : Attr). bytes_eq k a.attr.name) attrs))
 
 -- one class more
-shows_class : (attrs : List Attr) → Rises attr_name attrs → (k : List ℕ) (test : List ℕ → Bool) → shows (map user (with_class glue_class attrs)) k test
-    ≡ cond (bytes_eq k (codes "objectclass")) (test (codes "glue") || shows (map user attrs) k test) (shows (map user attrs) k test)
-shows_class attrs r k test =
-    shows_own (with_class glue_class attrs) k test
-    ∙ ap (λ o. list_any (λ (v : Val). test v.key) (own_vals o)) (find_put attr_name k (record { attr = key_named (codes "objectclass"); vals = put_val glue_class (vals_at (codes "objectclass") attrs) }) attrs)
+pub shows_class : (class : Val) (attrs : List Attr) → Rises attr_name attrs → (k : List ℕ) (test : List ℕ → Bool) → shows (map user (with_class class attrs)) k test
+    ≡ cond (bytes_eq k (codes "objectclass")) (test class.key || shows (map user attrs) k test) (shows (map user attrs) k test)
+shows_class class attrs r k test =
+    shows_own (with_class class attrs) k test
+    ∙ ap (λ o. list_any (λ (v : Val). test v.key) (own_vals o)) (find_put attr_name k (record { attr = key_named (codes "objectclass"); vals = put_val class (vals_at (codes "objectclass") attrs) }) attrs)
     ∙ by (bytes_eq k (codes "objectclass")) refl
   where
     by : (b : Bool) → bytes_eq k (codes "objectclass") ≡ b
-        → list_any (λ (v : Val). test v.key) (own_vals (cond b (Some (record { attr = key_named (codes "objectclass"); vals = put_val glue_class (vals_at (codes "objectclass") attrs) })) (find (λ (a : Attr). bytes_eq k a.attr.name) attrs)))
-        ≡ cond b (test (codes "glue") || shows (map user attrs) k test) (shows (map user attrs) k test)
+        → list_any (λ (v : Val). test v.key) (own_vals (cond b (Some (record { attr = key_named (codes "objectclass"); vals = put_val class (vals_at (codes "objectclass") attrs) })) (find (λ (a : Attr). bytes_eq k a.attr.name) attrs)))
+        ≡ cond b (test class.key || shows (map user attrs) k test) (shows (map user attrs) k test)
     by true e =
-        any_put (λ (v : Val). v.key) test glue_class (vals_at (codes "objectclass") attrs)
-        ∙ ap (λ vs. test (codes "glue") || list_any (λ (v : Val). test v.key) vs)
+        any_put (λ (v : Val). v.key) test class (vals_at (codes "objectclass") attrs)
+        ∙ ap (λ vs. test class.key || list_any (λ (v : Val). test v.key) vs)
         (ap (λ (n : List ℕ). vals_at n attrs) (sym (is_same k (codes "objectclass") e)) ∙ one_at k attrs r)
-        ∙ ap (λ b. test (codes "glue") || b) (sym (shows_own attrs k test))
+        ∙ ap (λ b. test class.key || b) (sym (shows_own attrs k test))
     by false e = sym (shows_own attrs k test)
 
 -- ---- what is derived beside the own attributes
@@ -193,7 +174,7 @@ derived_shows id [] attrs k test =
   where
     by : (b c : Bool) → list_any (λ (v : Val). test v.key) (vals_of (cond b (Some (record { attr = key_named (codes "nsuniqueid"); vals = id_val id ∷ []; operational = true })) (find (λ (s : Shown). bytes_eq k s.attr.name) (map user attrs))))
         ≡ by_key id [] test b c (shows (map user attrs) k test)
-    by true c = nothing_more (test (uid_text id))
+    by true c = or_false (test (uid_text id))
     by false true = refl
     by false false = refl
 derived_shows id (w ∷ ws) attrs k test =
@@ -203,11 +184,11 @@ derived_shows id (w ∷ ws) attrs k test =
     by : (b c : Bool) → list_any (λ (v : Val). test v.key) (vals_of (cond b (Some (record { attr = key_named (codes "nsuniqueid"); vals = id_val id ∷ []; operational = true }))
         (cond c (Some (record { attr = key_named (codes "nsds5replconflict"); vals = w ∷ ws; operational = true })) (find (λ (s : Shown). bytes_eq k s.attr.name) (map user attrs)))))
         ≡ by_key id (w ∷ ws) test b c (shows (map user attrs) k test)
-    by true c = nothing_more (test (uid_text id))
+    by true c = or_false (test (uid_text id))
     by false true = refl
     by false false = refl
 
-rises_from : (attrs : List Attr) → Rises name_of (map user attrs) → Rises attr_name attrs
+pub rises_from : (attrs : List Attr) → Rises name_of (map user attrs) → Rises attr_name attrs
 rises_from [] r = tt
 rises_from (a ∷ attrs) r = (all_from attrs r.0, rises_from attrs r.1)
   where
@@ -215,24 +196,26 @@ rises_from (a ∷ attrs) r = (all_from attrs r.0, rises_from attrs r.1)
     all_from [] h = tt
     all_from (b ∷ bs) h = (h.0, all_from bs h.1)
 
--- ---- a present entry, by what its view lends
+-- what is found by its id has that id
+module _ {X : Type 0} (id : X → Uid) where
+  pub found_id : (u : Uid) (e : X) (es : List X) → find (λ (d : X). uid_eq (id d) u) es ≡ Some e → id e ≡ u
+  found_id u e [] h = let g : ◌≡◌ {A = Option X} None (Some e) = h in absurd cc
+  found_id u e (d ∷ es) h = by (uid_eq (id d) u) refl (found_id u e es) h
+    where
+      by : (b : Bool) → uid_eq (id d) u ≡ b → (find (λ (d : X). uid_eq (id d) u) es ≡ Some e → id e ≡ u) → cond b (Some d) (find (λ (d : X). uid_eq (id d) u) es) ≡ Some e → id e ≡ u
+      by true k more g =
+          let same : d ≡ e = cc in
+          ap id (sym same) ∙ uid_exact (id d) u (is_equal (uid_cmp (id d) u) k)
+      by false k more g = more g
 
-found_id : (u : Uid) (e : PresentEntry) (es : List PresentEntry) → find (λ (d : PresentEntry). uid_eq d.id u) es ≡ Some e → e.id ≡ u
-found_id u e [] h = let g : ◌≡◌ {A = Option PresentEntry} None (Some e) = h in absurd cc
-found_id u e (d ∷ es) h = by (uid_eq d.id u) refl (found_id u e es) h
-  where
-    by : (b : Bool) → uid_eq d.id u ≡ b → (find (λ (d : PresentEntry). uid_eq d.id u) es ≡ Some e → e.id ≡ u) → cond b (Some d) (find (λ (d : PresentEntry). uid_eq d.id u) es) ≡ Some e → e.id ≡ u
-    by true k more g =
-        let same : d ≡ e = cc in
-        ap (λ (x : PresentEntry). x.id) (sym same) ∙ uid_exact d.id u (is_equal (uid_cmp d.id u) k)
-    by false k more g = more g
+-- ---- a present entry, by what its view lends
 
 record Lends (v : DirectoryView) (u : Uid) (own : List Shown) (e : PresentEntry) : Type 0 where
   there : present_at v u ≡ Some e
   same : e.id ≡ u
   kept : map user e.attrs ≡ own
 
-nothing_is : {X : Type 0} (x : X) → ◌≡◌ {A = Option X} None (Some x) → ⊥
+pub nothing_is : {X : Type 0} (x : X) → ◌≡◌ {A = Option X} None (Some x) → ⊥
 nothing_is x e = absurd cc
 
 lends : (v : DirectoryView) (u : Uid) (own : List Shown) → own_of v u ≡ Some own → (e : PresentEntry) × Lends v u own e
@@ -240,7 +223,7 @@ lends v u own h = by (present_at v u) refl h
   where
     by : (o : Option PresentEntry) → present_at v u ≡ o → option_map (λ (e : PresentEntry). map user e.attrs) o ≡ Some own → (e : PresentEntry) × Lends v u own e
     by None k g = absurd (nothing_is own g)
-    by (Some e) k g = (e, record { there = k; same = found_id u e v.present k; kept = cc })
+    by (Some e) k g = (e, record { there = k; same = found_id (λ (d : PresentEntry). d.id) u e v.present k; kept = cc })
 
 abbrev classed : Bool → List Attr → List Attr
 classed glue attrs = if glue then with_class glue_class attrs else attrs
@@ -272,7 +255,7 @@ module _ (v : DirectoryView) (u : Uid) (own : List Shown) (rises : Rises name_of
   classed_shows : (g : Bool) (k : List ℕ) (test : List ℕ → Bool) → shows (map user (classed g e.attrs)) k test
       ≡ cond (bytes_eq k (codes "objectclass")) ((g && test (codes "glue")) || shows own k test) (shows own k test)
   classed_shows true k test =
-      shows_class e.attrs rise k test
+      shows_class glue_class e.attrs rise k test
       ∙ ap (λ (s : Bool). cond (bytes_eq k (codes "objectclass")) (test (codes "glue") || s) s) (own_shows k test)
   classed_shows false k test = own_shows k test ∙ by (bytes_eq k (codes "objectclass"))
     where
@@ -357,7 +340,7 @@ module _ (v : DirectoryView) (u : Uid) (own : List Shown) (rises : Rises name_of
         by false = first (test (naming_conflict (dn_below v (e.name ∷ path_of v e.parent))).key) false (all (naming_conflict (dn_below v (e.name ∷ path_of v e.parent))).key)
 
     pub glue_seen : (s : Standing) → standing_of v u ≡ Some s → bytes_eq k (codes "nsds5replconflict") ≡ true → s.lost ≡ false → s.glue ≡ true → shown_at v u k test ≡ test (codes "deletedentryhaschildren")
-    glue_seen s g c l h = conflict_tells s g c ∙ (λ x. tells (h x) (l x)) ∙ nothing_more (test (codes "deletedentryhaschildren"))
+    glue_seen s g c l h = conflict_tells s g c ∙ (λ x. tells (h x) (l x)) ∙ or_false (test (codes "deletedentryhaschildren"))
 
     pub plain_seen : (s : Standing) → standing_of v u ≡ Some s → bytes_eq k (codes "nsds5replconflict") ≡ true → s.lost ≡ false → s.glue ≡ false → shown_at v u k test ≡ shows own k test
     plain_seen s g c l h = conflict_tells s g c ∙ (λ x. tells (h x) (l x)) ∙ own_shows k test

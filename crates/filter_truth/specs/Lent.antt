@@ -1,12 +1,13 @@
--- WHAT A PRESENT ENTRY SHOWS, looked at where it is kept, and what can't be told without making it.
-use Rattle.std.specs.Prelude.{Bool, true, false, ◌&&◌, List, [], ◌≡◌, codes, Option, Some, None}
+-- WHAT AN ENTRY SHOWS, looked at where it is kept, and what can't be told without making it.
+use Rattle.std.specs.Prelude.{ℕ, Bool, true, false, ◌&&◌, List, [], ◌≡◌, codes, Option, Some, None}
 use Rattle.std.specs.List.{list_any}
 use Rattle.repl_data.specs.declared.change.Shown.{Shown}
 use Rattle.repl_data.specs.declared.change.ShownEntry.{ShownEntry}
 use Rattle.repl_data.specs.declared.csn.Uid.{Uid}
 use Rattle.repl_data.specs.declared.view.Standing.{Standing}
 use Rattle.repl_data.specs.Order.{bytes_eq}
-use Rattle.repl_data.specs.View.{DirectoryView, entry_of}
+use Rattle.repl_data.specs.Text.{uid_text}
+use Rattle.repl_data.specs.View.{DirectoryView, entry_of, tombstone_of}
 use Rattle.repl_data.specs.Lent.{standing_of}
 use Rattle.filter_truth.specs.declared.test.Test.{Test}
 use Rattle.filter_truth.specs.declared.test.Test.TheVariants.{Any}
@@ -22,6 +23,15 @@ attrs_of (Some e) = e.attrs
 -- what the present entry of this id shows, and nothing where there is none
 abbrev pub shown_at : DirectoryView → Uid → Shows
 shown_at v u = shows (attrs_of (entry_of v u))
+
+-- what the tombstone of this id shows, and nothing where there is none
+abbrev pub gone_shown_at : DirectoryView → Uid → Shows
+gone_shown_at v u = shows (attrs_of (tombstone_of v u))
+
+-- whether the text of an id passes, where there is one
+abbrev pub id_passes : (List ℕ → Bool) → Option Uid → Bool
+id_passes test None = false
+id_passes test (Some u) = test (uid_text u)
 
 -- ---- what can't be told without making it: the printed name that an entry lost
 

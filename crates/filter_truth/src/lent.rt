@@ -31,13 +31,15 @@ pub(crate) fn shows(attrs: &[Shown], asserted: &Assertion) -> bool
     }
 }
 
-fn is_named(asserted: &Assertion, name: &[u8]) -> bool
+/// The assertion is about the attribute of this name.
+pub(crate) fn is_named(asserted: &Assertion, name: &[u8]) -> bool
     ensures { result ≡ bytes_eq asserted.now.attr.name name.now }
 {
     same_bytes(asserted.attr.name.as_slice(), name)
 }
 
-fn passes_text(asserted: &Assertion, key: &[u8]) -> bool
+/// Whether a value of this key passes.
+pub(crate) fn passes_text(asserted: &Assertion, key: &[u8]) -> bool
     ensures { result ≡ passes asserted.now.attr.name asserted.now.test key.now }
 {
     passes(&asserted.attr, &asserted.test, key)

@@ -5,6 +5,7 @@
 #![tactic(auto)]
 
 mod found;
+mod gone;
 mod kept;
 mod laws;
 mod lent;

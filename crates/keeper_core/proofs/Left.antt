@@ -5,13 +5,14 @@ use Rattle.std.specs.declared.cmp.Ordering.{Ordering}
 use Rattle.std.specs.declared.cmp.Ordering.TheVariants.{Less, Equal, Greater}
 use Rattle.std.specs.Ordering.{is_eq, ordering_reverse}
 use Rattle.repl_data.specs.Order.{by_order}
+use Rattle.repl_data.proofs.Sound.{neither}
 use Rattle.keeper_core.specs.declared.row.RowKey.{RowKey}
 use Rattle.keeper_core.specs.declared.row.Row.{Row}
 use Rattle.keeper_core.specs.declared.row.BatchStep.{BatchStep}
 use Rattle.keeper_core.specs.declared.row.BatchStep.TheVariants.{Put, Remove}
 use Rattle.keeper_core.specs.Rows.{key_cmp, key_eq, IsRising, bytes_at, after_step, after_batch, is_on}
 use Rattle.keeper_core.proofs.Keys.{key_total, key_exact, same_key, key_eq-self}
-use Rattle.keeper_core.proofs.Placed.{put, without, IsRising-put, IsRising-without}
+use Rattle.keeper_core.proofs.Placed.{put, without, IsRising-put, IsRising-without, below_all}
 
 here : (key : RowKey) (r : Row) (rows : List Row) → key_eq key r.key ≡ true → bytes_at key (r ∷ rows) ≡ Some r.bytes
 here key r rows e = ap (λ b. cond b (Some r.bytes) (bytes_at key rows)) e
@@ -60,10 +61,6 @@ bytes_at-step : (key : RowKey) (rows : List Row) (step : BatchStep) → is_on ke
 bytes_at-step key rows (Put k bytes) n = bytes_at-put_other key (record { key = k; bytes = bytes }) rows n
 bytes_at-step key rows (Remove k) n = bytes_at-without_other key k rows n
 
-neither : (a b : Bool) → (a || b) ≡ false → (a ≡ false) × (b ≡ false)
-neither true b e = absurd cc
-neither false b e = (refl, e)
-
 pub bytes_at-others : (rows : List Row) (batch : List BatchStep) (key : RowKey) → list_any (is_on key) batch ≡ false → bytes_at key (after_batch rows batch) ≡ bytes_at key rows
 bytes_at-others rows [] key n = refl
 bytes_at-others rows (step ∷ steps) key n =
@@ -100,10 +97,6 @@ IsRising-batch rows (step ∷ steps) h = IsRising-batch (after_step rows step) s
 bytes_at-above : (key : RowKey) (rows : List Row) → AllByRecursion (λ (s : Row). key_cmp key s.key ≡ Less) rows → bytes_at key rows ≡ None
 bytes_at-above key [] h = refl
 bytes_at-above key (y ∷ ys) h = past key y ys (ap is_eq h.0) ∙ bytes_at-above key ys h.1
-
-below_all : (a b : RowKey) (rows : List Row) → key_cmp a b ≡ Less → AllByRecursion (λ (s : Row). key_cmp b s.key ≡ Less) rows → AllByRecursion (λ (s : Row). key_cmp a s.key ≡ Less) rows
-below_all a b [] h g = tt
-below_all a b (y ∷ ys) h g = (key_total.trans a b y.key h g.0, below_all a b ys h g.1)
 
 first_missing : (x y : Row) (xs ys : List Row) → IsRising (y ∷ ys) → key_cmp x.key y.key ≡ Less → bytes_at x.key (x ∷ xs) ≡ bytes_at x.key (y ∷ ys) → ⊥
 first_missing x y xs ys r e h =

@@ -68,7 +68,7 @@ without-above : (key : RowKey) (rows : List Row) → AllByRecursion (λ (s : Row
 without-above key [] h = refl
 without-above key (y ∷ ys) h = keeps key y ys (ap is_eq h.0) ∙ ap (λ zs. y ∷ zs) (without-above key ys h.1)
 
-below_all : (a b : RowKey) (rows : List Row) → key_cmp a b ≡ Less → AllByRecursion (λ (s : Row). key_cmp b s.key ≡ Less) rows → AllByRecursion (λ (s : Row). key_cmp a s.key ≡ Less) rows
+pub below_all : (a b : RowKey) (rows : List Row) → key_cmp a b ≡ Less → AllByRecursion (λ (s : Row). key_cmp b s.key ≡ Less) rows → AllByRecursion (λ (s : Row). key_cmp a s.key ≡ Less) rows
 below_all a b [] h g = tt
 below_all a b (y ∷ ys) h g = (key_total.trans a b y.key h g.0, below_all a b ys h g.1)
 

@@ -13,6 +13,7 @@ use Rattle.ber_core.specs.Number.{integer, integer_of, shortest_integer}
 use Rattle.ber_core.specs.Reading.{header_at}
 use Rattle.ber_core.proofs.Laws.{header_from_element, header_again, header_takes}
 use Rattle.ber_core.proofs.Written.{IsElement-element, integer_of-shortest_integer}
+use Rattle.ber_core.proofs.Complete.{tag_first}
 use Rattle.ber_core.specs.Window.{Stop, Window, Reading, tag_in, tag_here, inside, after, open_here, open_as, octets, int, ended, many_from, many}
 use Rattle.ldap_replies.specs.Grammar.{header_bytes, open_exact, exact, exact_optional, exact_int}
 
@@ -78,15 +79,6 @@ header_there w tag body t b =
     let all : w.bytes ≡ front ++ (body ++ b.rest) = b.parts ∙ ap (λ (xs : List ℕ). xs ++ b.rest) k.2 ∙ append_assoc front body b.rest in
     ap (header_at w.left) all ∙ header_again w.left front (body ++ b.rest) tag (length body) k.1 (omega arith) ∙ ap (λ (n : ℕ). Ok (record { tag = tag; size = n; content = length body })) size
 
-tag_there : (start at left tag : ℕ) (bytes : List ℕ) → 2 ≤ left → IsTag tag → tag_in start at left (tag ∷ bytes) ≡ Ok tag
-unfolding tag_in
-tag_there start at zero tag bytes le t = absurd (omega arith)
-tag_there start at (suc zero) tag bytes le t = absurd (omega arith)
-tag_there start at (suc (suc left)) tag bytes le t = let short : eqb (tag % 32) 31 ≡ false = not_equal (tag % 32) 31 t in rw short refl
-  where
-    not_equal : (a b : ℕ) → (a ≡ b → ⊥) → eqb a b ≡ false
-    not_equal a b never = grind (arith, nat_tests)
-
 pub two_there : (w : Window) (tag : ℕ) (body : List ℕ) → IsTag tag → Begins w (element tag body) → 2 ≤ w.left
 two_there w tag body t b =
     let k = header_takes w.left w.bytes (head tag (length body)) (header_there w tag body t b) in
@@ -100,7 +92,7 @@ element_parts tag body rest = append_assoc (tag ∷ shortest_length (length body
 pub tag_begins : (w : Window) (tag : ℕ) (body : List ℕ) → IsTag tag → Begins w (element tag body) → tag_here w ≡ Ok tag
 tag_begins w tag body t b =
     ap (λ (bytes : List ℕ). tag_in w.start w.at w.left bytes) (b.parts ∙ element_parts tag body b.rest)
-    ∙ tag_there w.start w.at w.left tag (shortest_length (length body) ++ (body ++ b.rest)) (two_there w tag body t b) t
+    ∙ tag_first w.start w.at w.left tag (shortest_length (length body) ++ (body ++ b.rest)) (two_there w tag body t b) t
 
 pub inside_holds : (w : Window) (tag : ℕ) (body : List ℕ) → Begins w (element tag body) → Holds (inside w (head tag (length body))) body
 inside_holds w tag body b =

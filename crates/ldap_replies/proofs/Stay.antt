@@ -2,6 +2,7 @@
 use Rattle.std.proofs.Common.{◌≡◌, ℕ, ◌-◌, ◌+◌, ◌≤◌, cond, List, [], ◌∷◌, ◌++◌, length, Option, Some, None, Result, Ok, Err, refl, sym, ap, ◌∙◌, arith, length-append}
 use Rattle.std.specs.Prelude.{◌==◌}
 use Rattle.std.proofs.lemmas.List.{append-nil}
+use Rattle.repl_data.proofs.Loops.{empty_rest}
 use Rattle.ldap_types.specs.declared.reply.Reply.{Reply}
 use Rattle.ldap_types.specs.declared.reply.ReplyOp.TheVariants as op
 use Rattle.ber_core.specs.declared.fault.BerWhy.TheVariants as ber_why
@@ -165,10 +166,6 @@ fault_once limit place bytes more w is = fault_again (reply_stays limit bytes mo
 
 out : (x y : Reply × ℕ) → answer x ≡ answer y → x ≡ y
 out x y e = cc
-
-empty_rest : (bytes more : List ℕ) → length bytes ≡ length (bytes ++ more) → more ≡ []
-empty_rest bytes [] e = refl
-empty_rest bytes (m ∷ more) e = absurd (omega (arith, length-append bytes (m ∷ more)))
 
 pub none_is_prefix : NoneIsPrefix
 none_is_prefix r s more i j e =

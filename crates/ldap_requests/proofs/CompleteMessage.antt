@@ -2,6 +2,7 @@
 use Rattle.std.proofs.Common.{◌≡◌, ℕ, ◌≤◌, Bool, true, false, cond, List, [], ◌∷◌, ◌++◌, length, Option, Result, Ok, Err, refl, sym, ap, subst, ◌∙◌, arith, length-append, inl, inr, ◌⊎◌}
 use Rattle.std.proofs.lemmas.List.{append-nil}
 use Rattle.std.specs.Prelude.{◌==◌, unwrap_or}
+use Rattle.repl_data.proofs.Loops.{empty_rest}
 use Rattle.ber_core.specs.Element.{IsElement}
 use Rattle.ldap_types.specs.declared.request.Request.{Request}
 use Rattle.ldap_types.specs.declared.request.Control.{Control}
@@ -24,7 +25,7 @@ use Rattle.ber_core.proofs.Complete.{Gets, gets, go_on, at_ok, Is, value_is, Hol
 use Rattle.ber_core.proofs.CompleteMany.{many_full, starts_unknown, starts_maybe, optional_full}
 use Rattle.ldap_requests.proofs.CompleteParts.{text_full, texts_full, count_full, message_id_full, bind_full, unbind_full, delete_full, abandon_full, add_full, modify_full, rename_full, compare_full, extended_full}
 use Rattle.ldap_requests.proofs.CompleteFilter.{filter_full}
-use Rattle.ldap_requests.proofs.StableMessage.{fault_once}
+use Rattle.ldap_requests.proofs.StableMessage.{fault_once, out}
 
 search_full : (w : Window) (body : List ℕ) (r : SearchRequest) → Holds w body → Search body r → Gets (Is (op.Search r)) (search_inside w)
 unfolding search_inside
@@ -119,25 +120,18 @@ spelled_is_read limit bytes rest r s le =
 
 -- ---- what follows for the spellings
 
-same : (x y : Request × ℕ) → (let a : Result (Request × ℕ) Stop = Ok x in a) ≡ Ok y → x ≡ y
-same x y e = cc
-
 pub one_request : OneRequest
 one_request bytes r s e f =
     let limit = length bytes in
-    let p = same (r, limit) (s, limit) (sym (spelled_is_read limit bytes [] r e (omega arith)) ∙ spelled_is_read limit bytes [] s f (omega arith)) in
+    let p = out (r, limit) (s, limit) (sym (spelled_is_read limit bytes [] r e (omega arith)) ∙ spelled_is_read limit bytes [] s f (omega arith)) in
     ap (λ (q : Request × ℕ). q.0) p
-
-empty_rest : (bytes more : List ℕ) → length bytes ≡ length (bytes ++ more) → more ≡ []
-empty_rest bytes [] e = refl
-empty_rest bytes (m ∷ more) e = absurd (omega (arith, length-append bytes (m ∷ more)))
 
 pub no_spelling_is_prefix : NoSpellingIsPrefix
 no_spelling_is_prefix bytes more r s e f =
     let limit = length (bytes ++ more) in
     let len = length-append bytes more in
     let whole : request_at limit (bytes ++ more) ≡ Ok (s, limit) = ap (request_at limit) (sym (append-nil (bytes ++ more))) ∙ spelled_is_read limit (bytes ++ more) [] s f (omega arith) in
-    let p = same (r, length bytes) (s, limit) (sym (spelled_is_read limit bytes more r e (omega arith)) ∙ whole) in
+    let p = out (r, length bytes) (s, limit) (sym (spelled_is_read limit bytes more r e (omega arith)) ∙ whole) in
     (empty_rest bytes more (ap (λ (q : Request × ℕ). q.1) p), ap (λ (q : Request × ℕ). q.0) p)
 
 -- ---- what the reader in code gives for a spelling
@@ -150,7 +144,7 @@ abbrev pub IsRead : Request → ℕ → Result (Request × ℕ) ReadFault → Ty
 IsRead r n read = (read ≡ Ok (r, n)) ⊎ (read ≡ Err fault.NoMemory)
 
 by_answer : (r : Request) (n : ℕ) (read : Result (Request × ℕ) ReadFault) (at : Result (Request × ℕ) Stop) → at ≡ Ok (r, n) → Gives (λ p. p) read at → IsRead r n read
-by_answer r n (Ok p) at e g = inl (ap (λ (q : Request × ℕ). Ok q) (same p (r, n) (sym g ∙ e)))
+by_answer r n (Ok p) at e g = inl (ap (λ (q : Request × ℕ). Ok q) (out p (r, n) (sym g ∙ e)))
 by_answer r n (Err fault.NoMemory) at e g = inr refl
 by_answer r n (Err fault.More) at e g = absurd (stops More (r, n) (sym g ∙ e))
 by_answer r n (Err (fault.NotLdap place w)) at e g = absurd (stops (Fault place w) (r, n) (sym g ∙ e))

@@ -1,6 +1,7 @@
 -- Each part of a message that was answered stays, whatever bytes follow.
-use Rattle.std.proofs.Common.{◌≡◌, ℕ, zero, suc, false, List, [], ◌∷◌, ◌++◌, length, Result, Ok, Err, refl, sym, ap, subst, ◌∙◌, arith, length-append}
+use Rattle.std.proofs.Common.{◌≡◌, ℕ, zero, suc, false, List, [], ◌∷◌, ◌++◌, length, Result, Ok, Err, refl, sym, ap, subst, ◌∙◌}
 use Rattle.std.specs.Prelude.{◌==◌, unwrap_or}
+use Rattle.repl_data.proofs.Loops.{empty_rest}
 use Rattle.ber_core.specs.declared.fault.BerWhy.TheVariants as ber_why
 use Rattle.ldap_types.specs.declared.request.Request.{Request}
 use Rattle.ldap_types.specs.declared.request.Op.TheVariants as op
@@ -244,12 +245,8 @@ request_again limit n bytes more r is = value_again (request_stays limit bytes m
 pub fault_once : StaysAtFault
 fault_once limit place bytes more w is = fault_again (request_stays limit bytes more) place w is
 
-out : (x y : Request × ℕ) → (let a : Result (Request × ℕ) Stop = Ok x in a) ≡ Ok y → x ≡ y
+pub out : (x y : Request × ℕ) → (let a : Result (Request × ℕ) Stop = Ok x in a) ≡ Ok y → x ≡ y
 out x y e = cc
-
-empty_rest : (bytes more : List ℕ) → length bytes ≡ length (bytes ++ more) → more ≡ []
-empty_rest bytes [] e = refl
-empty_rest bytes (m ∷ more) e = absurd (omega (arith, length-append bytes (m ∷ more)))
 
 pub none_is_prefix : NoneIsPrefix
 none_is_prefix limit bytes more r s e f =

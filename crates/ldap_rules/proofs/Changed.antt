@@ -24,6 +24,7 @@ use Rattle.repl_data.proofs.Orders.{bytes_total}
 use Rattle.repl_data.proofs.Sound.{neither, not_true, not_false, both_true, no_faults}
 use Rattle.repl_data.proofs.CheckLaws.{any-position}
 use Rattle.repl_data.proofs.Known.{any_map}
+use Rattle.repl_data.proofs.Loops.{all_filter, all_mono}
 use Rattle.dn_text.specs.declared.name.Dn.{Dn}
 use Rattle.dn_text.specs.declared.fault.DnFault.{DnFault}
 use Rattle.dn_text.specs.Laws.{IsReadable, AreReadable, AreReadableParts, IsReadablePart}
@@ -40,7 +41,7 @@ use Rattle.ldap_rules.proofs.Chains.{by_pass, by_free}
 use Rattle.ldap_rules.proofs.Checked.{any_both, nowhere, no_first, none_falls, parts_rise, no_empty_part, ids_of_supplier}
 use Rattle.ldap_rules.proofs.There.{entry_there}
 use Rattle.ldap_rules.proofs.Entries.{entry_below}
-use Rattle.ldap_rules.proofs.OwnNames.{all_mono, all_filter, Names, own_name}
+use Rattle.ldap_rules.proofs.OwnNames.{Names, own_name}
 
 abbrev part_name : Ava → List ℕ
 part_name a = a.attr.name

@@ -29,7 +29,6 @@ use Rattle.repl_data.specs.Stamps.{Act, Adds, Deletes, adds, mod_acts, mods_acts
 use Rattle.repl_data.specs.Order.{stamp, zero_csn}
 use Rattle.repl_data.specs.View.{DirectoryView, put_val, view_of}
 use Rattle.repl_data.proofs.InOrder.{is_equal}
-use Rattle.repl_data.proofs.Raised.{same_attr}
 use Rattle.repl_data.proofs.Sound.{neither, not_both, not_false}
 use Rattle.attr_keys.specs.Table.{key_of, is_single}
 use Rattle.repl_data.proofs.Known.{any_map}
@@ -53,8 +52,8 @@ use Rattle.ldap_rules.proofs.Places.{all_put, is_same, equal_key}
 use Rattle.ldap_rules.proofs.Goods.{GoodVals, value_good, values_good}
 use Rattle.ldap_rules.proofs.Checked.{nowhere, no_first, none_falls, ids_of_supplier}
 use Rattle.ldap_rules.proofs.There.{entry_there}
-use Rattle.repl_data.proofs.Loops.{all_append}
-use Rattle.ldap_rules.proofs.OwnNames.{all_mono, all_filter}
+use Rattle.repl_data.proofs.Loops.{all_append, all_filter, all_mono}
+use Rattle.repl_data.proofs.SameView.{same_attr}
 use Rattle.ldap_rules.proofs.OwnKeys.{IsOwnVal, name_own, values_own}
 use Rattle.ldap_rules.proofs.OwnVals.{Gives, ChangeGives, ListsSuch, own_vals}
 

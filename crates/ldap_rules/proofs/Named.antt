@@ -15,7 +15,8 @@ use Rattle.repl_data.specs.Check.{has_value}
 use Rattle.repl_data.specs.View.{put_attr, put_val, vals_at}
 use Rattle.repl_data.proofs.Sound.{neither, both_true, not_both}
 use Rattle.repl_data.proofs.Orders.{bytes_total, bytes_exact}
-use Rattle.repl_data.proofs.InOrder.{either_true, in_order_by-append, any-in_order_by, put-known}
+use Rattle.repl_data.proofs.InOrder.{in_order_by-append, any-in_order_by, put-known}
+use Rattle.repl_data.proofs.Bools.{either_true}
 use Rattle.ldap_rules.specs.Ordered.{val_key, attr_name, own_key}
 use Rattle.rule_values.specs.Listed.{has_key, with_part}
 use Rattle.ldap_rules.proofs.Places.{put_rises, equal_key, is_same}

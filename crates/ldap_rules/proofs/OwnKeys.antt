@@ -11,7 +11,6 @@ use Rattle.repl_data.specs.Types.{is_derived_attribute, is_derived_value}
 use Rattle.repl_data.specs.Check.{is_empty, has_value}
 use Rattle.repl_data.specs.View.{put_attr, put_val, vals_at}
 use Rattle.repl_data.proofs.InOrder.{is_equal}
-use Rattle.repl_data.proofs.Raised.{same_attr}
 use Rattle.attr_keys.specs.Name.{bad_name}
 use Rattle.attr_keys.specs.Table.{key_of, kind_of}
 use Rattle.attr_keys.specs.Value.{bad_value, value_key}
@@ -28,6 +27,7 @@ use Rattle.ldap_rules.specs.Carried.{IsOwnName, AreOwnVals}
 use Rattle.ldap_rules.proofs.Chains.{by_pass, by_fit, same_ok}
 use Rattle.ldap_rules.proofs.Places.{all_put}
 use Rattle.repl_data.proofs.Loops.{all_append}
+use Rattle.repl_data.proofs.SameView.{same_attr}
 
 -- a value of this attribute that is accepted, with the key of its spelling
 abbrev pub IsOwnVal : AttrKey → Val → Type 0

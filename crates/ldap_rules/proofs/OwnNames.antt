@@ -1,6 +1,6 @@
 -- The own name of each entry but the suffix entry is one that a change gave.
 use Rattle.std.proofs.Common.{◌≡◌, ◌⊎◌, inl, inr, Bool, true, false, cond, ◌||◌, List, [], ◌∷◌, ◌++◌, map, refl, sym, ap, subst, ◌∙◌, Option, Some, None}
-use Rattle.std.specs.Prelude.{filter, find, flat_map, option_map, if◌then◌else◌}
+use Rattle.std.specs.Prelude.{find, option_map, if◌then◌else◌}
 use Rattle.std.specs.List.{AllByRecursion, list_any}
 use Rattle.std.specs.declared.cmp.Ordering.{Ordering}
 use Rattle.std.specs.declared.cmp.Ordering.TheVariants.{Less, Equal, Greater}
@@ -9,36 +9,21 @@ use Rattle.std.proofs.lemmas.Cmp.{tied_itself}
 use Rattle.std.proofs.lemmas.Bool.{or_right}
 use Rattle.repl_data.specs.declared.csn.Csn.{Csn}
 use Rattle.repl_data.specs.declared.csn.Uid.{Uid}
-use Rattle.repl_data.specs.declared.change.Attr.{Attr}
 use Rattle.repl_data.specs.declared.change.Rdn.{Rdn}
-use Rattle.repl_data.specs.declared.change.Body.{Body}
-use Rattle.repl_data.specs.declared.change.Body.TheVariants.{Add, Mod as Modify, Ren, Del}
 use Rattle.repl_data.specs.declared.change.Change.{Change}
 use Rattle.repl_data.specs.declared.change.Suffix.{Suffix}
-use Rattle.repl_data.specs.Order.{csn_lt, uid_cmp, uid_eq, suffix_id, zero_csn, latest_or, put_by, by_order, in_order}
-use Rattle.repl_data.specs.Stamps.{of_entry}
-use Rattle.repl_data.specs.Facts.{EntryFacts, entry_facts, names_given, ids_added, added_ids, ids_known, all_facts}
-use Rattle.repl_data.specs.Presence.{is_live, is_child, present_of, gone_of}
+use Rattle.repl_data.specs.Order.{uid_cmp, uid_eq, suffix_id, put_by, by_order, in_order}
+use Rattle.repl_data.specs.Facts.{EntryFacts, entry_facts, names_given, added_ids, ids_known, all_facts}
+use Rattle.repl_data.specs.Presence.{present_of, gone_of}
 use Rattle.repl_data.specs.View.{DirectoryView, PresentEntry, Tombstone, present_at, gone_at, first_of_two, name_of, view_of}
 use Rattle.repl_data.proofs.Orders.{uid_total, uid_exact}
-use Rattle.repl_data.proofs.CsnTests.{csn_lt-zero}
-use Rattle.repl_data.proofs.InOrder.{either_true, is_equal}
-use Rattle.repl_data.proofs.Loops.{all_append, all_map}
+use Rattle.repl_data.proofs.InOrder.{is_equal}
+use Rattle.repl_data.proofs.Loops.{all_append, all_map, all_filter, all_mono}
 use Rattle.repl_data.proofs.Sound.{not_both}
+use Rattle.repl_data.proofs.Paths.{all_present}
+use Rattle.repl_data.proofs.NamesClosed.{added_named, names_with, own_names, picked_some}
 
 -- ---- all items of a list
-
-pub all_mono : {X : Type 0} (P Q : X → Type 0) → ((x : X) → P x → Q x) → (xs : List X) → AllByRecursion P xs → AllByRecursion Q xs
-all_mono P Q f [] h = tt
-all_mono P Q f (x ∷ xs) h = (f x h.0, all_mono P Q f xs h.1)
-
-pub all_filter : {X : Type 0} (P : X → Type 0) (q : X → Bool) (xs : List X) → AllByRecursion P xs → AllByRecursion P (filter q xs)
-all_filter P q [] h = tt
-all_filter P q (x ∷ xs) h = by (q x) (all_filter P q xs h.1)
-  where
-    by : (b : Bool) → AllByRecursion P (filter q xs) → AllByRecursion P (cond b (x ∷ filter q xs) (filter q xs))
-    by true g = (h.0, g)
-    by false g = g
 
 all_put : (P : Uid → Type 0) (u : Uid) (us : List Uid) → P u → AllByRecursion P us → AllByRecursion P (put_by (λ (w : Uid). w) uid_cmp u us)
 all_put P u [] p h = (p, tt)
@@ -66,31 +51,11 @@ known_such P xs f =
     all_in_order P (suffix_id ∷ added_ids xs)
     (f suffix_id (inl refl), all_mono (λ u. list_any (uid_eq u) (added_ids xs) ≡ true) P (λ u h. f u (inr h)) (added_ids xs) (each_is_there (added_ids xs)))
 
--- ---- the latest of what was given
-
-pub picked : {X : Type 0} (P : Csn × X → Type 0) (none : X) (x : Csn × X) (xs : List (Csn × X)) → P x → AllByRecursion P xs → P (latest_or (zero_csn, none) (x ∷ xs))
-picked P none x [] h g = subst (λ b. P (if b then (zero_csn, none) else x)) (sym (csn_lt-zero x.0)) h
-picked P none x (y ∷ ys) h g = by (csn_lt x.0 (latest_or (zero_csn, none) (y ∷ ys)).0) (picked P none y ys g.0 g.1)
-  where
-    by : (b : Bool) → P (latest_or (zero_csn, none) (y ∷ ys)) → P (if b then latest_or (zero_csn, none) (y ∷ ys) else x)
-    by true k = k
-    by false k = h
-
-pub picked_some : {X : Type 0} (P : Csn × X → Type 0) (none : X) (xs : List (Csn × X)) → (xs ≡ [] → ⊥) → AllByRecursion P xs → P (latest_or (zero_csn, none) xs)
-picked_some P none [] n h = absurd (n refl)
-picked_some P none (x ∷ xs) n h = picked P none x xs h.0 h.1
-
 -- ---- what the changes of an entry give
-
-abbrev pub own_names : List Change → Uid → List (Csn × Rdn)
-own_names xs u = flat_map (λ (c : Change). names_given c.csn c.body) (of_entry xs u)
 
 -- the names that a change gives are such
 abbrev pub Names : (Rdn → Type 0) → Change → Type 0
 Names P c = AllByRecursion (λ (p : Csn × Rdn). P p.1) (names_given c.csn c.body)
-
-abbrev names_with : Bool → Change → List Change → Uid → List (Csn × Rdn)
-names_with b x xs u = flat_map (λ (c : Change). names_given c.csn c.body) (cond b (x ∷ of_entry xs u) (of_entry xs u))
 
 own_names-such : (P : Rdn → Type 0) (xs : List Change) (u : Uid) → AllByRecursion (Names P) xs → AllByRecursion (λ (p : Csn × Rdn). P p.1) (own_names xs u)
 own_names-such P [] u h = tt
@@ -99,38 +64,6 @@ own_names-such P (x ∷ xs) u h = by (uid_eq x.target u) (own_names-such P xs u 
     by : (b : Bool) → AllByRecursion (λ (p : Csn × Rdn). P p.1) (own_names xs u) → AllByRecursion (λ (p : Csn × Rdn). P p.1) (names_with b x xs u)
     by true g = all_append (λ (p : Csn × Rdn). P p.1) (names_given x.csn x.body) (own_names xs u) h.0 g
     by false g = g
-
-pub not_nothing : {X : Type 0} (x : X) (xs : List X) → x ∷ xs ≡ [] → ⊥
-not_nothing x xs e = cc
-
-behind_some : {X : Type 0} (ps qs : List X) → (qs ≡ [] → ⊥) → ps ++ qs ≡ [] → ⊥
-behind_some [] qs n e = n e
-behind_some (p ∷ ps) qs n e = not_nothing p (ps ++ qs) e
-
-more_names : (b : Bool) (x : Change) (xs : List Change) (u : Uid) → (own_names xs u ≡ [] → ⊥) → names_with b x xs u ≡ [] → ⊥
-more_names true x xs u n = behind_some (names_given x.csn x.body) (own_names xs u) n
-more_names false x xs u n = n
-
-names_of_add : (x : Change) (xs : List Change) (u : Uid) (parent : Uid) (rdn : Rdn) (attrs : List Attr) → x.body ≡ Add parent rdn attrs → x.target ≡ u → own_names (x ∷ xs) u ≡ [] → ⊥
-names_of_add x xs u parent rdn attrs k t e =
-    let same : uid_eq x.target u ≡ true = subst (λ w. uid_eq x.target w ≡ true) t (ap is_eq (tied_itself uid_total x.target)) in
-    not_nothing (x.csn, rdn) (own_names xs u)
-    (sym (ap (λ b. names_with b x xs u) same ∙ ap (λ w. names_given x.csn w ++ own_names xs u) k) ∙ e)
-
-names_after : (x : Change) (xs : List Change) (u : Uid) (b : Body) → x.body ≡ b → list_any (uid_eq u) (ids_added x.target b ++ added_ids xs) ≡ true
-    → (list_any (uid_eq u) (added_ids xs) ≡ true → own_names xs u ≡ [] → ⊥) → own_names (x ∷ xs) u ≡ [] → ⊥
-names_after x xs u (Add parent rdn attrs) k g rest =
-    either_true (uid_eq u x.target) _ g
-    (λ own. names_of_add x xs u parent rdn attrs k (sym (uid_exact u x.target (is_equal _ own))))
-    (λ a. more_names (uid_eq x.target u) x xs u (rest a))
-names_after x xs u (Modify mods) k g rest = more_names (uid_eq x.target u) x xs u (rest g)
-names_after x xs u (Ren rdn dropped) k g rest = more_names (uid_eq x.target u) x xs u (rest g)
-names_after x xs u Del k g rest = more_names (uid_eq x.target u) x xs u (rest g)
-
--- an entry that was added has been given a name
-pub added_named : (xs : List Change) (u : Uid) → list_any (uid_eq u) (added_ids xs) ≡ true → own_names xs u ≡ [] → ⊥
-added_named [] u h e = not_both false h refl
-added_named (x ∷ xs) u h e = names_after x xs u x.body refl h (added_named xs u) e
 
 -- ---- the entries
 
@@ -147,14 +80,6 @@ module _ (P : Rdn → Type 0) (suffix : Suffix) (xs : List Change) (given : AllB
 
   all_such : AllByRecursion (FactsSuch P) (all_facts suffix xs)
   all_such = all_map (FactsSuch P) (entry_facts suffix xs) (ids_known xs) (known_such (λ u. FactsSuch P (entry_facts suffix xs u)) xs facts_such)
-
-pub present_such : (P : EntryFacts → Type 0) (es : List EntryFacts) → AllByRecursion P es → AllByRecursion P (present_of es)
-present_such P [] h = tt
-present_such P (e ∷ above) h = by (is_live e || list_any (is_child e.id) (present_of above)) (present_such P above h.1)
-  where
-    by : (b : Bool) → AllByRecursion P (present_of above) → AllByRecursion P (if b then e ∷ present_of above else present_of above)
-    by true g = (h.0, g)
-    by false g = g
 
 -- ---- the view
 
@@ -190,6 +115,6 @@ own_name P suffix xs u rdn given c h =
     let es : List EntryFacts = all_facts suffix xs in
     let such : AllByRecursion (FactsSuch P) es = all_such P suffix xs given in
     name_such P (view_of suffix xs) u rdn
-    (all_map (PresentSuch P) _ (present_of es) (present_such (FactsSuch P) es such))
+    (all_map (PresentSuch P) _ (present_of es) (all_present (FactsSuch P) es such))
     (all_map (GoneSuch P) _ (gone_of es) (all_filter (FactsSuch P) _ es such))
     c h

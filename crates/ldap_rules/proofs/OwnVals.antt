@@ -2,8 +2,7 @@
 use Rattle.std.proofs.Common.{◌≡◌, ◌⊎◌, inl, inr, ℕ, suc, ◌+◌, Bool, true, false, cond, ◌||◌, List, [], ◌∷◌, ◌++◌, map, refl, sym, ap, subst, ◌∙◌, Option, Some, None}
 use Rattle.std.specs.Prelude.{◌&&◌, not, filter, find, flat_map, option_map, unwrap_or, if◌then◌else◌}
 use Rattle.std.specs.List.{AllByRecursion, list_any, list_all}
-use Rattle.std.specs.Ordering.{is_eq}
-use Rattle.std.proofs.lemmas.Cmp.{tied_itself}
+use Rattle.rule_values.proofs.Places.{equal_key}
 use Rattle.repl_data.specs.declared.csn.Csn.{Csn}
 use Rattle.repl_data.specs.declared.csn.Uid.{Uid}
 use Rattle.repl_data.specs.declared.change.AttrKey.{AttrKey}
@@ -29,16 +28,18 @@ use Rattle.repl_data.specs.Facts.{ValFacts, AttrFacts, EntryFacts, attr_of, is_a
 use Rattle.repl_data.specs.Presence.{present_of}
 use Rattle.repl_data.specs.View.{DirectoryView, PresentEntry, present_at, user, view_of}
 use Rattle.repl_data.specs.Lent.{own_of}
-use Rattle.repl_data.proofs.Orders.{bytes_total}
 use Rattle.repl_data.proofs.CsnTests.{csn_lt-trans, csn_lt-le_trans, csn_not-from_le, csn_lt-from_not_zero}
-use Rattle.repl_data.proofs.InOrder.{is_equal, either_true}
+use Rattle.repl_data.proofs.InOrder.{is_equal}
 use Rattle.repl_data.proofs.KeyPlaces.{all_put, is_same}
-use Rattle.repl_data.proofs.Raised.{same_attr}
 use Rattle.repl_data.proofs.Sound.{not_both, both_true, not_false, no_faults, no_fault, sound_rid}
 use Rattle.repl_data.proofs.Steps.{flat_map-append, filter-append}
 use Rattle.ldap_rules.specs.Rename.{own_values}
-use Rattle.repl_data.proofs.Loops.{all_append, all_map}
-use Rattle.ldap_rules.proofs.OwnNames.{all_mono, all_filter, Names, own_names, picked, picked_some, added_named, known_such, present_such, not_nothing}
+use Rattle.repl_data.proofs.Loops.{all_append, all_map, all_filter, all_mono}
+use Rattle.repl_data.proofs.Bools.{either_true}
+use Rattle.repl_data.proofs.SameView.{same_attr}
+use Rattle.repl_data.proofs.Paths.{all_present}
+use Rattle.repl_data.proofs.NamesClosed.{added_named, not_nothing, own_names, picked_some, picked}
+use Rattle.ldap_rules.proofs.OwnNames.{Names, known_such}
 
 -- ---- acts
 
@@ -65,9 +66,6 @@ on t acts = filter (is_act_on t) acts
 
 abbrev Such : (AttrKey → Val → Type 0) → AttrKey → List ℕ → Csn × List ℕ → Type 0
 Such Q t k p = Q t (record { key = k; spelled = p.1 })
-
-same_key : (a b : List ℕ) → a ≡ b → bytes_eq a b ≡ true
-same_key a b e = subst (λ x. bytes_eq a x ≡ true) e (ap is_eq (tied_itself bytes_total a))
 
 -- ---- what is added is such
 
@@ -125,9 +123,9 @@ IsNamed os k = added k os ≡ [] → csn_lt zero_csn (greatest (deleted k os)) �
 
 named_here : (a : Act) (os : List Act) → IsLate a → AllByRecursion (IsNamed (a ∷ os)) (keys_named a)
 named_here (Adds s t v) os h =
-    ((λ e. absurd (not_nothing (s, v.spelled) (added v.key os) (sym (ap (λ (b : Bool). (if b then (s, v.spelled) ∷ [] else []) ++ added v.key os) (same_key v.key v.key refl)) ∙ e))), tt)
+    ((λ e. absurd (not_nothing (s, v.spelled) (added v.key os) (sym (ap (λ (b : Bool). (if b then (s, v.spelled) ∷ [] else []) ++ added v.key os) (equal_key v.key v.key refl)) ∙ e))), tt)
 named_here (Deletes s t v) os h =
-    ((λ e. subst (λ (b : Bool). csn_lt zero_csn (greatest ((if b then s ∷ [] else []) ++ deleted v.key os)) ≡ true) (sym (same_key v.key v.key refl)) (first_max s (greatest (deleted v.key os)) h)), tt)
+    ((λ e. subst (λ (b : Bool). csn_lt zero_csn (greatest ((if b then s ∷ [] else []) ++ deleted v.key os)) ≡ true) (sym (equal_key v.key v.key refl)) (first_max s (greatest (deleted v.key os)) h)), tt)
 named_here (Clears s t) os h = tt
 
 named_all : (os : List Act) → AllByRecursion IsLate os → AllByRecursion (IsNamed os) (flat_map keys_named os)
@@ -229,8 +227,8 @@ more_added xs ys a h e =
 
 is_added : (s : Csn) (t : AttrKey) (v : Val) (rest : List Act) (a : Ava) → bytes_eq t.name a.attr.name ≡ true → bytes_eq v.key a.val.key ≡ true → IsAdded (Adds s t v ∷ rest) a
 is_added s t v rest a same key e =
-    let attr : bytes_eq a.attr.name t.name ≡ true = same_key a.attr.name t.name (sym (is_same t.name a.attr.name same)) in
-    let own : bytes_eq a.val.key v.key ≡ true = same_key a.val.key v.key (sym (is_same v.key a.val.key key)) in
+    let attr : bytes_eq a.attr.name t.name ≡ true = equal_key a.attr.name t.name (sym (is_same t.name a.attr.name same)) in
+    let own : bytes_eq a.val.key v.key ≡ true = equal_key a.val.key v.key (sym (is_same v.key a.val.key key)) in
     not_nothing (s, v.spelled) (added a.val.key (on a.attr rest))
     (sym ((λ i. added a.val.key (cond (attr i) (Adds s t v ∷ on a.attr rest) (on a.attr rest))) ∙ ap (λ (b : Bool). (if b then (s, v.spelled) ∷ [] else []) ++ added a.val.key (on a.attr rest)) own) ∙ e)
 
@@ -256,7 +254,7 @@ all_of_attrs s attrs (a ∷ avas) h = let both = both_true (has_value attrs a) (
 of_parts : (s : Csn) (avas : List Ava) → AllByRecursion (IsAdded (map (λ (a : Ava). Adds s a.attr a.val) avas)) avas
 of_parts s [] = tt
 of_parts s (a ∷ avas) = (
-  is_added s a.attr a.val (map (λ (b : Ava). Adds s b.attr b.val) avas) a (same_key a.attr.name a.attr.name refl) (same_key a.val.key a.val.key refl),
+  is_added s a.attr a.val (map (λ (b : Ava). Adds s b.attr b.val) avas) a (equal_key a.attr.name a.attr.name refl) (equal_key a.val.key a.val.key refl),
   all_mono (IsAdded (map (λ (b : Ava). Adds s b.attr b.val) avas)) (IsAdded (map (λ (b : Ava). Adds s b.attr b.val) (a ∷ avas)))
       (λ b h. more_added (Adds s a.attr a.val ∷ []) (map (λ (c : Ava). Adds s c.attr c.val) avas) b (inr h)) avas (of_parts s avas),
 )
@@ -411,7 +409,7 @@ module _ (Q : AttrKey → Val → Type 0) (suffix : Suffix) (xs : List Change) (
   present_shows : AllByRecursion (λ (e : PresentEntry). AllByRecursion (HasSuch Q) e.attrs) (view_of suffix xs).present
   present_shows =
       all_map (λ (e : PresentEntry). AllByRecursion (HasSuch Q) e.attrs) _ (present_of (all_facts suffix xs))
-      (present_such ShowsSuch (all_facts suffix xs) (all_map ShowsSuch (entry_facts suffix xs) (ids_known xs) (known_such (λ u. ShowsSuch (entry_facts suffix xs u)) xs facts_such)))
+      (all_present ShowsSuch (all_facts suffix xs) (all_map ShowsSuch (entry_facts suffix xs) (ids_known xs) (known_such (λ u. ShowsSuch (entry_facts suffix xs u)) xs facts_such)))
 
 abbrev pub ListsSuch : (AttrKey → Val → Type 0) → Shown → Type 0
 ListsSuch Q s = AllByRecursion (Q s.attr) s.vals

@@ -9,19 +9,13 @@ use Rattle.repl_data.specs.declared.change.Suffix.{Suffix}
 use Rattle.repl_data.specs.Order.{uid_eq, suffix_id, same_rdn}
 use Rattle.repl_data.specs.View.{DirectoryView, PresentEntry, Tombstone, present_at, child_of, is_shown_below, view_of}
 use Rattle.repl_data.specs.Closed.{is_known}
-use Rattle.repl_data.proofs.Orders.{uid_total}
-use Rattle.std.proofs.lemmas.Cmp.{tied_itself}
-use Rattle.std.specs.Ordering.{is_eq}
 use Rattle.std.proofs.lemmas.Bool.{or_left, or_right}
-use Rattle.repl_data.proofs.Known.{known_by_view}
+use Rattle.repl_data.proofs.Known.{known_by_view, own_id}
 use Rattle.repl_data.specs.Facts.{added_ids}
 use Rattle.dn_text.specs.declared.place.Place.{Place}
 use Rattle.dn_text.specs.declared.place.Place.TheVariants.{There, Nearest}
 use Rattle.dn_text.specs.Names.{below, place_of, found, entry_at}
 use Rattle.ldap_rules.specs.Laws.{has_entry}
-
-same_id : (u : Uid) → uid_eq u u ≡ true
-same_id u = ap is_eq (tied_itself uid_total u)
 
 -- what is found in a part of a list is there
 found_there : (p q : PresentEntry → Bool) (es : List PresentEntry) (u : Uid) → option_map (λ (e : PresentEntry). e.id) (find p (filter q es)) ≡ Some u → is_some (find (λ (e : PresentEntry). uid_eq e.id u) es) ≡ true
@@ -36,7 +30,7 @@ found_there p q (e ∷ es) u h = by (q e) (uid_eq e.id u) refl h (found_there p 
     here true s g = refl
     here false s g =
         let at : e.id ≡ u = cc in
-        let t : true ≡ false = sym (same_id u) ∙ ap (λ w. uid_eq w u) (sym at) ∙ s in
+        let t : true ≡ false = sym (own_id u) ∙ ap (λ w. uid_eq w u) (sym at) ∙ s in
         let n : ⊥ = cc in absurd n
 
     first : (this same : Bool) → uid_eq e.id u ≡ same → option_map (λ (e : PresentEntry). e.id) (cond this (Some e) (find p (filter q es))) ≡ Some u
@@ -68,7 +62,7 @@ place_there : (v : DirectoryView) (rdns : List Rdn) (u : Uid) → place_of v rdn
 unfolding place_of
 place_there v [] u h =
     let e : suffix_id ≡ u = cc in
-    or_left (uid_eq u suffix_id) (is_some (present_at v u)) (ap (λ w. uid_eq w suffix_id) (sym e) ∙ same_id suffix_id)
+    or_left (uid_eq u suffix_id) (is_some (present_at v u)) (ap (λ w. uid_eq w suffix_id) (sym e) ∙ own_id suffix_id)
 place_there v (rdn ∷ above) u h = step_there v rdn u (place_of v above) h
 
 pub entry_there : (v : DirectoryView) (rdns : List Rdn) (u : Uid) → entry_at v rdns ≡ Ok u → has_entry v u ≡ true

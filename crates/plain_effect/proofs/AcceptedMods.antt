@@ -28,13 +28,15 @@ use Rattle.repl_data.specs.Presence.{present_of, is_among_entries}
 use Rattle.repl_data.specs.Plain.{add_values, plain_mod, plain_modify, plain_effect}
 use Rattle.repl_data.specs.View.{DirectoryView, PresentEntry, Tombstone, present_at, gone_at, first_of_two, user, vals_at, name_of, view_of}
 use Rattle.repl_data.proofs.CsnTests.{csn_lt-from_not_zero}
-use Rattle.repl_data.proofs.InOrder.{is_equal, either_true, in_order_by-Rises}
+use Rattle.repl_data.proofs.InOrder.{is_equal, in_order_by-Rises}
 use Rattle.repl_data.proofs.KeyPlaces.{is_less, is_same}
 use Rattle.repl_data.proofs.OneChange.{attrs_facts-raised}
 use Rattle.repl_data.proofs.Orders.{bytes_total, uid_exact}
-use Rattle.repl_data.proofs.Raised.{same_attr}
 use Rattle.repl_data.proofs.SameView.{base, stamp_of, from_all, body_acts_from}
 use Rattle.repl_data.proofs.Sound.{not_both, both_true}
+use Rattle.repl_data.proofs.Bools.{either_true}
+use Rattle.repl_data.proofs.Loops.{all_filter, all_mono}
+use Rattle.repl_data.proofs.Paths.{all_present}
 use Rattle.ldap_types.specs.declared.request.Control.{Control}
 use Rattle.ldap_types.specs.declared.request.RawMod.{RawMod}
 use Rattle.ldap_types.specs.declared.reply.Identity.{Identity}
@@ -47,7 +49,6 @@ use Rattle.ldap_rules.specs.Modify.{own_name, modify_made, modify_verdict}
 use Rattle.ldap_rules.specs.Laws.{change_at, IsDrawnAbove}
 use Rattle.ldap_rules.proofs.Modified.{IsFine, IsModified, IsReadMod, IsWrittenSo, last, modified, modify_checked, modify_there, each_mod, all_written, both_all, none_of, no_second, fine_written}
 use Rattle.ldap_rules.proofs.Ops.{after_writes}
-use Rattle.ldap_rules.proofs.OwnNames.{all_mono, all_filter, present_such}
 use Rattle.plain_effect.specs.Above.{IsAbove}
 use Rattle.plain_effect.proofs.Added.{parent_present}
 use Rattle.plain_effect.proofs.Holder.{entry_of_facts}
@@ -129,7 +130,7 @@ module _ (suffix : Suffix) (xs : List Change) (u : Uid) where
   at_view : is_among_entries (present_of (all_facts suffix xs)) u ≡ true → present_at (view_of suffix xs) u ≡ Some (entry_of_facts (present_of (all_facts suffix xs)) facts)
   at_view there =
       found_of (present_of (all_facts suffix xs)) (present_of (all_facts suffix xs))
-      (present_such (λ (e : EntryFacts). e ≡ entry_facts suffix xs e.id) (all_facts suffix xs) (of_each (ids_known xs))) there
+      (all_present (λ (e : EntryFacts). e ≡ entry_facts suffix xs e.id) (all_facts suffix xs) (of_each (ids_known xs))) there
     where
       of_each : (us : List Uid) → AllByRecursion (λ (e : EntryFacts). e ≡ entry_facts suffix xs e.id) (map (entry_facts suffix xs) us)
       of_each [] = tt
@@ -246,4 +247,4 @@ accepted_mods suffix xs controls bound object given u body c closed above h draw
     subst (λ (x : Body). plain_effect v (change_at c (Some u) x) ≡ Some (view_of suffix (xs ++ change_at c (Some u) x ∷ []))) (sym m.body)
     (ap Some (changed suffix xs c u mods sound there g
     (all_mono (λ (x : EntryFacts). x ≡ entry_facts suffix xs x.id) (ShowsSo u (moved c mods) g) shows (present_of (all_facts suffix xs))
-    (present_such (λ (x : EntryFacts). x ≡ entry_facts suffix xs x.id) (all_facts suffix xs) (of_ids suffix xs c u mods sound there (ids_known xs)))))))
+    (all_present (λ (x : EntryFacts). x ≡ entry_facts suffix xs x.id) (all_facts suffix xs) (of_ids suffix xs c u mods sound there (ids_known xs)))))))

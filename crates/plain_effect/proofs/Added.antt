@@ -1,5 +1,5 @@
 -- What the changes say of the entries where one add comes, whose CSN is above all of them.
-use Rattle.std.proofs.Common.{◌≡◌, ◌<◌, Bool, true, false, cond, ◌||◌, List, [], ◌∷◌, ◌++◌, refl, sym, ap, ◌∙◌, arith, Some}
+use Rattle.std.proofs.Common.{◌≡◌, ◌<◌, Bool, true, false, cond, ◌||◌, List, [], ◌∷◌, ◌++◌, refl, sym, ap, ◌∙◌, arith, Some, append-nil}
 use Rattle.std.specs.Prelude.{not, ◌&&◌, flat_map, find, is_some, if◌then◌else◌}
 use Rattle.std.specs.List.{AllByRecursion, list_any, list_all}
 use Rattle.std.specs.declared.cmp.Ordering.{Ordering}
@@ -16,9 +16,8 @@ use Rattle.repl_data.specs.declared.change.Body.{Body}
 use Rattle.repl_data.specs.declared.change.Body.TheVariants.{Add, Mod as Modify, Ren, Del}
 use Rattle.repl_data.specs.declared.change.Change.{Change}
 use Rattle.repl_data.specs.declared.change.Suffix.{Suffix}
-use Rattle.repl_data.specs.declared.change.Malformed.TheVariants.{Root}
 use Rattle.repl_data.specs.Order.{zero_csn, csn_cmp, csn_lt, csn_eq, uid_cmp, uid_eq, suffix_id, greatest, latest_or, stamp, put_by}
-use Rattle.repl_data.specs.Check.{is_out_of_order, is_of_root, faults_of_frame, faults_of_body}
+use Rattle.repl_data.specs.Check.{is_out_of_order}
 use Rattle.repl_data.specs.Closed.{is_sound, is_known}
 use Rattle.repl_data.specs.Stamps.{of_entry, suffix_acts}
 use Rattle.repl_data.specs.Facts.{EntryFacts, attrs_facts, names_given, deaths, ids_added, own_facts, entry_facts, added_ids, ids_known, all_facts}
@@ -29,11 +28,12 @@ use Rattle.repl_data.proofs.CsnTests.{csn_lt-zero, csn_lt-irreflexive, csn_lt-tr
 use Rattle.repl_data.proofs.InOrder.{is_equal, any-in_order_by}
 use Rattle.repl_data.proofs.Known.{any_map}
 use Rattle.repl_data.proofs.KeyPlaces.{is_less}
-use Rattle.repl_data.proofs.Sound.{not_both, both_true, not_false, neither, no_fault, no_faults, sound_order}
-use Rattle.repl_data.proofs.Steps.{flat_map-append, append_none, all_facts-append}
+use Rattle.repl_data.proofs.Sound.{not_both, both_true, not_false, neither, sound_order}
+use Rattle.repl_data.proofs.Steps.{flat_map-append, all_facts-append}
 use Rattle.ldap_rules.specs.Laws.{has_entry}
-use Rattle.repl_data.proofs.Loops.{all_append, all_map}
-use Rattle.ldap_rules.proofs.OwnNames.{all_mono, all_in_order}
+use Rattle.repl_data.proofs.Loops.{all_append, all_map, all_mono}
+use Rattle.repl_data.proofs.ClosedLaws.{no_deaths}
+use Rattle.ldap_rules.proofs.OwnNames.{all_in_order}
 use Rattle.ldap_rules.proofs.There.{some_any}
 use Rattle.plain_effect.specs.Above.{IsAbove}
 use Rattle.plain_effect.proofs.Shown.{acts_of}
@@ -108,7 +108,7 @@ own_new : (suffix : Suffix) (c : Csn) (u parent : Uid) (rdn : Rdn) (attrs : List
 own_new suffix c u parent rdn attrs n =
     let low : csn_lt c zero_csn ≡ false = csn_lt-zero c in
     let acts : (if uid_eq u suffix_id then suffix_acts suffix else []) ++ (acts_of (stamp c 0) attrs ++ []) ≡ acts_of (stamp c 0) attrs =
-    ap (λ b. (if b then suffix_acts suffix else []) ++ (acts_of (stamp c 0) attrs ++ [])) n ∙ append_none (acts_of (stamp c 0) attrs) in
+    ap (λ b. (if b then suffix_acts suffix else []) ++ (acts_of (stamp c 0) attrs ++ [])) n ∙ append-nil (acts_of (stamp c 0) attrs) in
     λ i. record {
       id = u;
       parent = (if◌then◌else◌ {A = Csn × Uid} (low i) (zero_csn, suffix_id) (c, parent)).1;
@@ -173,26 +173,6 @@ names_below c u (x ∷ xs) a = by (uid_eq x.target u) (names_below c u xs a.1)
     by true g = all_append (λ (p : Csn × Rdn). csn_lt c p.0 ≡ false) (names_given x.csn x.body) _ (own x.body) g
     by false g = g
 
-sound_root : (d : Change) → is_sound d ≡ true → is_of_root d.target d.body ≡ false
-sound_root d h = no_fault (is_of_root d.target d.body) Root (no_faults (faults_of_frame d ++ faults_of_body d.body) h).1.1.1.0
-
-no_death : (xs : List Change) → list_all is_sound xs ≡ true → flat_map (λ (d : Change). deaths d.csn d.body) (of_entry xs suffix_id) ≡ []
-no_death [] s = refl
-no_death (x ∷ xs) s =
-    let s' = both_true (is_sound x) (list_all is_sound xs) s in
-    by (uid_eq x.target suffix_id) refl x.body (sound_root x s'.0) (no_death xs s'.1)
-  where
-    by : (b : Bool) → uid_eq x.target suffix_id ≡ b → (body : Body) → is_of_root x.target body ≡ false → flat_map (λ (d : Change). deaths d.csn d.body) (of_entry xs suffix_id) ≡ []
-        → flat_map (λ (d : Change). deaths d.csn d.body) (cond b (x ∷ of_entry xs suffix_id) (of_entry xs suffix_id)) ≡ []
-    by false e body r g = g
-    by true e body r g = ap (λ ds. ds ++ flat_map (λ (d : Change). deaths d.csn d.body) (of_entry xs suffix_id)) (none x.body (sound_root x (both_true (is_sound x) (list_all is_sound xs) s).0)) ∙ g
-      where
-        none : (y : Body) → is_of_root x.target y ≡ false → deaths x.csn y ≡ []
-        none (Add parent rdn attrs) k = refl
-        none (Modify mods) k = refl
-        none (Ren rdn dropped) k = refl
-        none Del k = absurd (not_both (uid_eq x.target suffix_id) e k)
-
 -- the name of an entry is below the new CSN, and the suffix entry is live
 pub record IsOlder (c : Csn) (e : EntryFacts) : Type 0 where
   pub named : csn_lt c e.named ≡ false
@@ -204,7 +184,7 @@ entry_older suffix c xs s a u = record {
   root = λ e.
       let at : u ≡ suffix_id = uid_exact u suffix_id (is_equal _ e) in
       ap (λ w. csn_eq (greatest (flat_map (λ (d : Change). deaths d.csn d.body) (of_entry xs w))) zero_csn) at
-      ∙ ap (λ ds. csn_eq (greatest ds) zero_csn) (no_death xs s)
+      ∙ ap (λ ds. csn_eq (greatest ds) zero_csn) (no_deaths xs s)
       ∙ ap is_eq (tied_itself csn_total zero_csn);
 }
 

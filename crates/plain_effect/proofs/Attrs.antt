@@ -22,12 +22,12 @@ use Rattle.repl_data.specs.Plain.{set_values, values_after, plain_mod}
 use Rattle.repl_data.specs.View.{put_attr, vals_at}
 use Rattle.repl_data.proofs.Orders.{bytes_total, bytes_exact}
 use Rattle.repl_data.proofs.InOrder.{in_order_by-Rises, in_order_by-append, any-in_order_by, put-known, is_equal}
-use Rattle.repl_data.proofs.KeyPlaces.{put_rises, is_same}
+use Rattle.repl_data.proofs.KeyPlaces.{put_rises, is_same, same_self}
 use Rattle.repl_data.proofs.Raised.{map-append}
 use Rattle.repl_data.proofs.Sound.{neither, not_both}
 use Rattle.repl_data.proofs.Steps.{flat_map-append}
 use Rattle.plain_effect.proofs.Present.{any_last}
-use Rattle.plain_effect.proofs.Normal.{own, opt, listed, with_one, put_key, same_key, above_other, listed_same, all_keys, put_listed, drop_listed, put_none}
+use Rattle.plain_effect.proofs.Normal.{own, opt, listed, with_one, put_key, above_other, listed_same, all_keys, put_listed, drop_listed, put_none}
 use Rattle.plain_effect.proofs.Shown.{turned}
 use Rattle.plain_effect.proofs.Runs.{vals_all, AreRising}
 use Rattle.plain_effect.proofs.Whole.{AreLate, AreEarlier, IsOnce, Leaves, attr_after}
@@ -111,7 +111,7 @@ one_name xs n [] h = in_order_by-append bytes_cmp bytes_total own bytes_exact xs
 one_name xs n (y ∷ ys) h =
     ap (in_order bytes_cmp) (sym (append_assoc xs (n ∷ []) (y ∷ ys)) ∙ ap (λ z. (xs ++ n ∷ []) ++ z ∷ ys) h.0)
     ∙ one_name (xs ++ n ∷ []) n ys h.1
-    ∙ put-known bytes_cmp bytes_total own bytes_exact n (xs ++ n ∷ []) (any_last (bytes_eq n) xs n ∙ ap (λ b. list_any (bytes_eq n) xs || b) (same_key n) ∙ or_true (list_any (bytes_eq n) xs))
+    ∙ put-known bytes_cmp bytes_total own bytes_exact n (xs ++ n ∷ []) (any_last (bytes_eq n) xs n ∙ ap (λ b. list_any (bytes_eq n) xs || b) (same_self n) ∙ or_true (list_any (bytes_eq n) xs))
     ∙ in_order_by-append bytes_cmp bytes_total own bytes_exact xs n
   where
     or_true : (b : Bool) → (b || true) ≡ true
@@ -198,7 +198,7 @@ v_each (m ∷ mods) v n = v_each mods (v_step v m) n
 set_listed : (v : Values) (t : AttrKey) (new : List Val) (ns : List (List ℕ)) → Rises own ns → set_values t new (listed (attrs_of v) ns) ≡ listed (with_one (attrs_of v) t.name (attr_opt t.name new)) (put_key t.name ns)
 set_listed v t [] ns r =
     drop_listed attr_name (attrs_of v) (fits_attrs v) (λ n. bytes_eq n t.name) ns
-    ∙ put_none (with_one (attrs_of v) t.name None) t.name ns (ap (λ (b : Bool). if b then None else attrs_of v t.name) (same_key t.name))
+    ∙ put_none (with_one (attrs_of v) t.name None) t.name ns (ap (λ (b : Bool). if b then None else attrs_of v t.name) (same_self t.name))
 set_listed v t (x ∷ new) ns r = put_listed attr_name (attrs_of v) (fits_attrs v) (record { attr = t; vals = x ∷ new }) ns r
 
 step_listed : (v : Values) (m : Mod) (ns : List (List ℕ)) → Rises own ns → Knows v ns → plain_mod (listed (attrs_of v) ns) m ≡ listed (attrs_of (v_step v m)) (put_key m.attr.name ns)

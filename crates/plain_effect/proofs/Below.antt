@@ -19,8 +19,7 @@ use Rattle.repl_data.specs.Facts.{ValFacts, is_act_on, additions, deletions, val
 use Rattle.repl_data.proofs.CsnTests.{csn_lt-from_not_zero}
 use Rattle.repl_data.proofs.SameView.{base, stamp_of, from_all, body_acts_from}
 use Rattle.repl_data.proofs.Sound.{not_both, both_true, sound_sub}
-use Rattle.repl_data.proofs.Loops.{all_append}
-use Rattle.ldap_rules.proofs.OwnNames.{all_mono, all_filter}
+use Rattle.repl_data.proofs.Loops.{all_append, all_filter, all_mono}
 use Rattle.plain_effect.specs.Above.{IsAbove}
 
 -- ---- CSNs

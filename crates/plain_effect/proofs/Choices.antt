@@ -5,26 +5,26 @@ use Rattle.std.specs.List.{AllByRecursion, list_any}
 use Rattle.std.specs.declared.cmp.Ordering.TheVariants.{Less}
 use Rattle.std.specs.Ordering.{is_eq}
 use Rattle.std.proofs.lemmas.Bool.{or_right}
+use Rattle.rule_values.proofs.SetLemmas.{put_last}
 use Rattle.repl_data.specs.declared.csn.Csn.{Csn}
 use Rattle.repl_data.specs.declared.change.AttrKey.{AttrKey}
 use Rattle.repl_data.specs.declared.change.Val.{Val}
 use Rattle.repl_data.specs.declared.change.Mod.{Mod}
 use Rattle.repl_data.specs.declared.change.ModKind.{ModKind}
 use Rattle.repl_data.specs.declared.change.ModKind.TheVariants.{Add as AddValues, Delete, Replace}
-use Rattle.repl_data.specs.Order.{csn_lt, csn_le, csn_max, later, bytes_cmp, bytes_eq, by_order, in_order}
+use Rattle.repl_data.specs.Order.{csn_lt, csn_le, csn_max, later, bytes_cmp, bytes_eq, in_order}
 use Rattle.repl_data.specs.Ordered.{Rises}
 use Rattle.repl_data.specs.Stamps.{Act, Adds, Deletes, Clears, adds, mod_acts}
 use Rattle.repl_data.specs.Facts.{ValFacts, keys_named}
 use Rattle.repl_data.specs.Plain.{add_values, without_values, values_after}
-use Rattle.repl_data.specs.View.{put_val}
 use Rattle.repl_data.proofs.Orders.{bytes_total, bytes_exact}
 use Rattle.repl_data.proofs.CsnTests.{csn_lt-irreflexive, csn_lt-one_way, csn_le-from_not, csn_le-not}
 use Rattle.repl_data.proofs.InOrder.{in_order_by-append}
-use Rattle.repl_data.proofs.KeyPlaces.{above, put_rises, is_same}
+use Rattle.repl_data.proofs.KeyPlaces.{put_rises, is_same, same_self}
 use Rattle.repl_data.proofs.Raised.{raised_val}
 use Rattle.repl_data.proofs.Sound.{not_both}
 use Rattle.plain_effect.proofs.Shown.{turned}
-use Rattle.plain_effect.proofs.Normal.{own, opt, listed, with_one, put_key, same_key, above_other, listed_same, put_listed, drop_listed, put_none, listed_none}
+use Rattle.plain_effect.proofs.Normal.{own, opt, listed, with_one, put_key, above_other, listed_same, put_listed, drop_listed, put_none, listed_none}
 
 abbrev key_of : Val → List ℕ
 key_of v = v.key
@@ -85,12 +85,6 @@ added_listed (v ∷ vals) w ks f r =
     ap (add_values vals) (put_listed key_of w f v ks r)
     ∙ added_listed vals (with_one w v.key (Some v)) (put_key v.key ks) (fits_one w v f) (put_rises own v.key ks r)
 
--- rising values put one after the other are these
-put_behind : (v : Val) (before : List Val) → AllByRecursion (λ (x : Val). bytes_cmp x.key v.key ≡ Less) before → put_val v before ≡ before ++ v ∷ []
-put_behind v [] h = refl
-put_behind v (x ∷ before) h =
-    ap (λ o. by_order o (v ∷ x ∷ before) (v ∷ before) (x ∷ put_val v before)) (above x.key v.key h.0) ∙ ap (λ xs. x ∷ xs) (put_behind v before h.1)
-
 all_behind : (v : Val) (before vals : List Val) → AllByRecursion (λ (y : Val). AllByRecursion (λ (x : Val). bytes_cmp x.key y.key ≡ Less) before) vals → AllByRecursion (λ (y : Val). bytes_cmp v.key y.key ≡ Less) vals
     → AllByRecursion (λ (y : Val). AllByRecursion (λ (x : Val). bytes_cmp x.key y.key ≡ Less) (before ++ v ∷ [])) vals
 all_behind v before [] h g = tt
@@ -100,10 +94,11 @@ all_behind v before (y ∷ vals) h g = (one before h.0, all_behind v before vals
     one [] k = (g.0, tt)
     one (b ∷ bs) k = (k.0, one bs k.1)
 
+-- rising values put one after the other are these
 pub added_behind : (before vals : List Val) → AllByRecursion (λ (y : Val). AllByRecursion (λ (x : Val). bytes_cmp x.key y.key ≡ Less) before) vals → Rises key_of vals → add_values vals before ≡ before ++ vals
 added_behind before [] h r = sym (append-nil before)
 added_behind before (v ∷ vals) h r =
-    ap (add_values vals) (put_behind v before h.0)
+    ap (add_values vals) (put_last v before h.0)
     ∙ added_behind (before ++ v ∷ []) vals (all_behind v before vals h.1 r.0) r.1
     ∙ append_assoc before (v ∷ []) vals
 
@@ -125,7 +120,7 @@ among_more y old (v ∷ vals) h = (or_right (bytes_eq y.key v.key) (list_any (λ
 
 each_among : (vals : List Val) → AllByRecursion (λ (v : Val). list_any (λ (x : Val). bytes_eq x.key v.key) vals ≡ true) vals
 each_among [] = tt
-each_among (v ∷ vals) = (ap (λ b. b || list_any (λ (x : Val). bytes_eq x.key v.key) vals) (same_key v.key), among_more v vals vals (each_among vals))
+each_among (v ∷ vals) = (ap (λ b. b || list_any (λ (x : Val). bytes_eq x.key v.key) vals) (same_self v.key), among_more v vals vals (each_among vals))
 
 -- ONE MODIFICATION, IN PLAIN WORDS
 pub after_listed : (kind : ModKind) (vals : List Val) (w : Choice) (ks : List (List ℕ)) → Rises key_of vals → Fits w → Rises own ks → values_after kind vals (listed w ks) ≡ listed (chosen kind vals w) (keys_with vals ks)

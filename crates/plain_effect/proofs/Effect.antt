@@ -26,8 +26,9 @@ use Rattle.repl_data.proofs.Sound.{not_both, both_true, neither}
 use Rattle.ldap_rules.specs.Laws.{has_entry}
 use Rattle.ldap_rules.specs.Ordered.{Rises, attr_name}
 use Rattle.ldap_rules.proofs.Goods.{IsGood}
-use Rattle.repl_data.proofs.Loops.{all_map}
-use Rattle.ldap_rules.proofs.OwnNames.{all_mono, present_such}
+use Rattle.repl_data.proofs.Loops.{all_map, all_mono}
+use Rattle.repl_data.proofs.Bools.{and_false}
+use Rattle.repl_data.proofs.Paths.{all_present}
 use Rattle.plain_effect.specs.Above.{IsAbove}
 use Rattle.plain_effect.proofs.Shown.{HasFew, acts_show}
 use Rattle.plain_effect.proofs.Present.{put_last, map_all, present_keeps, present_more, gone_more, name_stays, name_new}
@@ -88,10 +89,6 @@ none_contends f p rdn (g ∷ es) h none =
     by true k n = absurd (not_both (contends_for p rdn g) (contender_too p rdn f g h k) n)
     by false k n = k
 
-ends_false : (b : Bool) → (b && false) ≡ false
-ends_false true = refl
-ends_false false = refl
-
 none_is : (o : Option Uid) → is_some o ≡ false → o ≡ None
 none_is None h = refl
 none_is (Some u) h = absurd (not_both true refl h)
@@ -137,7 +134,7 @@ module _ (suffix : Suffix) (xs : List Change) (c : Csn) (u parent : Uid) (rdn : 
           own_name = ap is_eq (tied_itself rdn_key_total (rdn_key rdn))
 
       name : shown_rdn (present ++ f ∷ []) f ≡ rdn
-      name = name_new present f (none_contends f parent rdn present contends nobody) (ap (λ b. contends_with f f && b) (none_before_itself f) ∙ ends_false (contends_with f f))
+      name = name_new present f (none_contends f parent rdn present contends nobody) (ap (λ b. contends_with f f && b) (none_before_itself f) ∙ and_false (contends_with f f))
 
   differ : AllByRecursion (λ e. uid_eq f.id e.id ≡ false) es
   differ = all_mono (λ (e : EntryFacts). csn_lt e.id.csn c ≡ true) (λ (e : EntryFacts). uid_eq u e.id ≡ false) (λ e l. ap is_eq (greater c u e.id own l)) es (entries_below suffix xs c r s a)
@@ -145,14 +142,14 @@ module _ (suffix : Suffix) (xs : List Change) (c : Csn) (u parent : Uid) (rdn : 
   greatest_id : AllByRecursion (λ (e : PresentEntry). uid_cmp u e.id ≡ Greater) (view_of suffix xs).present
   greatest_id =
       all_map (λ (e : PresentEntry). uid_cmp u e.id ≡ Greater) (entry_of_facts present) present
-      (present_such (λ (e : EntryFacts). uid_cmp u e.id ≡ Greater) es
+      (all_present (λ (e : EntryFacts). uid_cmp u e.id ≡ Greater) es
       (all_mono (λ (e : EntryFacts). csn_lt e.id.csn c ≡ true) (λ (e : EntryFacts). uid_cmp u e.id ≡ Greater) (λ e l. greater c u e.id own l) es (entries_below suffix xs c r s a)))
 
   shown_after : map (entry_of_facts (present ++ f ∷ [])) (present ++ f ∷ []) ≡ (view_of suffix xs).present ++ record { id = u; parent = parent; name = rdn; shown = rdn; is_glue = false; attrs = attrs } ∷ []
   shown_after =
       map-append (entry_of_facts (present ++ f ∷ [])) present (f ∷ [])
       ∙ (λ i. map_all (entry_of_facts (present ++ f ∷ [])) (entry_of_facts present) present
-      (each_stays c f parent rdn present present refl refl refl live (present_such (IsOlder c) es (entries_older suffix c xs s a)) nobody) i
+      (each_stays c f parent rdn present present refl refl refl live (all_present (IsOlder c) es (entries_older suffix c xs s a)) nobody) i
       ++ shown_new i ∷ [])
 
   added : plain_add (view_of suffix xs) u parent rdn attrs ≡ view_of suffix (xs ++ adding c u parent rdn attrs ∷ [])

@@ -1,9 +1,8 @@
 -- What a modify changes of a view: the values of its entry, and nothing else.
-use Rattle.std.proofs.Common.{◌≡◌, ◌≢◌, Bool, true, false, cond, not, ◌||◌, List, [], ◌∷◌, ◌++◌, map, refl, sym, ap, subst, ◌∙◌}
+use Rattle.std.proofs.Common.{◌≡◌, ◌≢◌, Bool, true, false, cond, not, ◌||◌, List, [], ◌∷◌, ◌++◌, map, refl, sym, ap, subst, ◌∙◌, append-nil}
 use Rattle.std.specs.Prelude.{◌&&◌, filter, if◌then◌else◌}
 use Rattle.std.specs.List.{AllByRecursion, list_any}
 use Rattle.std.specs.declared.cmp.Ordering.TheVariants.{Less, Equal, Greater}
-use Rattle.std.specs.Ordering.{is_eq}
 use Rattle.std.proofs.lemmas.Cmp.{tied_itself}
 use Rattle.repl_data.specs.declared.csn.Csn.{Csn}
 use Rattle.repl_data.specs.declared.csn.Uid.{Uid}
@@ -19,14 +18,15 @@ use Rattle.repl_data.specs.Presence.{is_live, is_child, present_of, is_among_ent
 use Rattle.repl_data.specs.Names.{contends_with, is_before, with_id, shown_rdn}
 use Rattle.repl_data.specs.declared.change.Attr.{Attr}
 use Rattle.repl_data.specs.View.{PresentEntry, Tombstone, view_of_facts, view_of}
-use Rattle.repl_data.proofs.Known.{any_map}
+use Rattle.repl_data.proofs.Known.{any_map, own_id}
 use Rattle.repl_data.proofs.OneChange.{raised_by, own_facts-append}
 use Rattle.repl_data.proofs.Orders.{uid_total, uid_exact, split}
 use Rattle.repl_data.proofs.InOrder.{is_equal}
 use Rattle.repl_data.proofs.SameView.{map_both}
 use Rattle.repl_data.proofs.Sound.{not_both, not_true}
 use Rattle.plain_effect.proofs.Holder.{entry_of_facts}
-use Rattle.repl_data.proofs.Steps.{flat_map-append, append_none, not_equal, entry_facts-other, entry_facts-own}
+use Rattle.repl_data.proofs.Steps.{flat_map-append, not_equal, entry_facts-other, entry_facts-own}
+use Rattle.repl_data.proofs.Raised.{map_through}
 
 abbrev pub modifying : Csn → Uid → List Mod → Change
 modifying c u mods = record { csn = c; target = u; body = ModifyEntry mods }
@@ -39,15 +39,8 @@ moved c mods attrs = raised_by attrs (mods_acts c 1 mods)
 abbrev touch : Uid → (List AttrFacts → List AttrFacts) → EntryFacts → EntryFacts
 touch u f e = record e { attrs = if uid_eq e.id u then f e.attrs else e.attrs }
 
-same_id : (u : Uid) → uid_eq u u ≡ true
-same_id u = ap is_eq (tied_itself uid_total u)
-
 other_id : (u w : Uid) → uid_cmp u w ≢ Equal → uid_eq w u ≡ false
 other_id u w n = not_equal (uid_cmp w u) (λ e. n (subst (λ x. uid_cmp u x ≡ Equal) (sym (uid_exact w u e)) (tied_itself uid_total u)))
-
-map_map : {X Y Z : Type 0} (f : X → Z) (g : Y → Z) (k : X → Y) → ((x : X) → f x ≡ g (k x)) → (xs : List X) → map f xs ≡ map g (map k xs)
-map_map f g k h [] = refl
-map_map f g k h (x ∷ xs) = λ i. h x i ∷ map_map f g k h xs i
 
 -- ---- the entries
 
@@ -67,16 +60,16 @@ module _ (suffix : Suffix) (xs : List Change) (c : Csn) (u : Uid) (mods : List M
       target =
           entry_facts-own suffix xs (modifying c u mods)
           ∙ own_facts-append suffix u (of_entry xs u) (modifying c u mods) sound refl
-          ∙ ap (λ (b : Bool). record (entry_facts suffix xs u) { attrs = if b then moved c mods (entry_facts suffix xs u).attrs else (entry_facts suffix xs u).attrs }) (sym (same_id u))
+          ∙ ap (λ (b : Bool). record (entry_facts suffix xs u) { attrs = if b then moved c mods (entry_facts suffix xs u).attrs else (entry_facts suffix xs u).attrs }) (sym (own_id u))
 
       own : uid_cmp u w ≡ Equal → entry_facts suffix (xs ++ modifying c u mods ∷ []) w ≡ touch u (moved c mods) (entry_facts suffix xs w)
       own e = subst (λ x. entry_facts suffix (xs ++ modifying c u mods ∷ []) x ≡ touch u (moved c mods) (entry_facts suffix xs x)) (uid_exact u w e) target
 
   entries_after : all_facts suffix (xs ++ modifying c u mods ∷ []) ≡ map (touch u (moved c mods)) (all_facts suffix xs)
   entries_after =
-      let ids : added_ids (xs ++ modifying c u mods ∷ []) ≡ added_ids xs = flat_map-append _ xs (modifying c u mods ∷ []) ∙ append_none (added_ids xs) in
+      let ids : added_ids (xs ++ modifying c u mods ∷ []) ≡ added_ids xs = flat_map-append _ xs (modifying c u mods ∷ []) ∙ append-nil (added_ids xs) in
       map_both (entry_facts suffix (xs ++ modifying c u mods ∷ [])) (λ w. touch u (moved c mods) (entry_facts suffix xs w)) (ids_known (xs ++ modifying c u mods ∷ [])) (ids_known xs) one_entry (ap (λ us. in_order uid_cmp (suffix_id ∷ us)) ids)
-      ∙ map_map (λ w. touch u (moved c mods) (entry_facts suffix xs w)) (touch u (moved c mods)) (entry_facts suffix xs) (λ w. refl) (ids_known xs)
+      ∙ map_through (λ w. touch u (moved c mods) (entry_facts suffix xs w)) (touch u (moved c mods)) (entry_facts suffix xs) (λ w. refl) (ids_known xs)
 
 -- ---- who is present
 

@@ -5,12 +5,11 @@ use Rattle.std.specs.List.{AllByRecursion, list_any}
 use Rattle.std.specs.declared.cmp.Ordering.{Ordering}
 use Rattle.std.specs.declared.cmp.Ordering.TheVariants.{Less, Equal, Greater}
 use Rattle.std.specs.Ordering.{is_eq, ordering_reverse}
-use Rattle.std.proofs.lemmas.Cmp.{tied_itself}
 use Rattle.repl_data.specs.Order.{bytes_cmp, bytes_eq, put_by, by_order}
 use Rattle.repl_data.specs.Ordered.{Rises}
-use Rattle.repl_data.proofs.KeyPlaces.{above, is_same}
+use Rattle.repl_data.proofs.KeyPlaces.{above, is_same, same_self}
 use Rattle.repl_data.proofs.Orders.{bytes_total, bytes_exact}
-use Rattle.ldap_rules.proofs.OwnNames.{all_mono}
+use Rattle.repl_data.proofs.Loops.{all_mono}
 
 abbrev pub own : List ℕ → List ℕ
 own k = k
@@ -31,9 +30,6 @@ with_one w k o j = if bytes_eq j k then o else w j
 abbrev pub put_key : List ℕ → List (List ℕ) → List (List ℕ)
 put_key = put_by own bytes_cmp
 
-pub same_key : (k : List ℕ) → bytes_eq k k ≡ true
-same_key k = ap is_eq (tied_itself bytes_total k)
-
 pub above_other : (k j : List ℕ) → bytes_cmp k j ≡ Less → bytes_eq j k ≡ false
 above_other k j l = ap is_eq (above k j l)
 
@@ -53,7 +49,7 @@ one_other : {X : Type 0} (w : List ℕ → Option X) (k j : List ℕ) (o : Optio
 one_other w k j o n = ap (λ (b : Bool). if b then o else w j) n
 
 one_own : {X : Type 0} (w : List ℕ → Option X) (k : List ℕ) (o : Option X) → with_one w k o k ≡ o
-one_own w k o = ap (λ (b : Bool). if b then o else w k) (same_key k)
+one_own w k o = ap (λ (b : Bool). if b then o else w k) (same_self k)
 
 others : {X : Type 0} (w : List ℕ → Option X) (k : List ℕ) (o : Option X) (ks : List (List ℕ)) → AllByRecursion (λ j. bytes_cmp k j ≡ Less) ks → listed (with_one w k o) ks ≡ listed w ks
 others w k o ks h = listed_same (with_one w k o) w ks (all_mono (λ j. bytes_cmp k j ≡ Less) (λ j. with_one w k o j ≡ w j) (λ j l. one_other w k j o (above_other k j l)) ks h)

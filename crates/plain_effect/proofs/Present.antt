@@ -1,5 +1,5 @@
 -- One entry more, which is live, above all others, and below a present parent.
-use Rattle.std.proofs.Common.{◌≡◌, Bool, true, false, cond, ◌||◌, List, [], ◌∷◌, ◌++◌, map, refl, ap, ◌∙◌}
+use Rattle.std.proofs.Common.{◌≡◌, Bool, true, false, cond, ◌||◌, List, [], ◌∷◌, ◌++◌, map, refl, ap, ◌∙◌, append-nil}
 use Rattle.std.specs.Prelude.{not, ◌&&◌, filter, if◌then◌else◌}
 use Rattle.std.specs.List.{AllByRecursion, list_any}
 use Rattle.std.specs.declared.cmp.Ordering.TheVariants.{Less, Greater}
@@ -12,11 +12,13 @@ use Rattle.repl_data.specs.Facts.{EntryFacts}
 use Rattle.repl_data.specs.Presence.{is_live, is_child, present_of, is_among_entries}
 use Rattle.repl_data.specs.Names.{contends_with, is_before, with_id, shown_rdn}
 use Rattle.repl_data.proofs.Orders.{uid_total, uid_exact}
-use Rattle.repl_data.proofs.InOrder.{is_equal, either_true, Rises}
+use Rattle.repl_data.proofs.InOrder.{is_equal, Rises}
 use Rattle.repl_data.proofs.Known.{eq_turned}
 use Rattle.repl_data.proofs.Sound.{not_both}
-use Rattle.repl_data.proofs.Steps.{append_none, filter-append}
-use Rattle.ldap_rules.proofs.OwnNames.{all_mono, present_such}
+use Rattle.repl_data.proofs.Steps.{filter-append}
+use Rattle.repl_data.proofs.Bools.{either_true, or_false}
+use Rattle.repl_data.proofs.Loops.{all_mono}
+use Rattle.repl_data.proofs.Paths.{all_present}
 
 abbrev pub id_of : EntryFacts → Uid
 id_of e = e.id
@@ -34,10 +36,6 @@ any_last q (y ∷ xs) x = ap (λ b. q y || b) (any_last q xs x) ∙ by (q y)
     by : (b : Bool) → (b || (list_any q xs || q x)) ≡ ((b || list_any q xs) || q x)
     by true = refl
     by false = refl
-
-or_none : (b : Bool) → (b || false) ≡ b
-or_none true = refl
-or_none false = refl
 
 pub put_last : {X : Type 0} (key : X → Uid) (x : X) (xs : List X) → AllByRecursion (λ y. uid_cmp (key x) (key y) ≡ Greater) xs → put_by key uid_cmp x xs ≡ xs ++ x ∷ []
 put_last key x [] h = refl
@@ -74,7 +72,7 @@ keeps_more p e above true r k g rest =
 keeps_more p e above false r k g rest = (
   λ s. absurd (not_both (is_among_entries (present_of above) p) g
       (none_any (λ (x : EntryFacts). uid_eq x.id p) (present_of above)
-      (present_such (λ (x : EntryFacts). uid_eq x.id p ≡ false) above
+      (all_present (λ (x : EntryFacts). uid_eq x.id p ≡ false) above
       (all_mono (λ (x : EntryFacts). uid_eq p x.id ≡ false) (λ (x : EntryFacts). uid_eq x.id p ≡ false) (λ x n. eq_turned x.id p ∙ n) above (above_differ p e above s r))))),
   rest g,
 )
@@ -113,7 +111,7 @@ pub gone_more : (present es : List EntryFacts) (f : EntryFacts) → AllByRecursi
 gone_more present es f h =
     filter-append (λ (e : EntryFacts). not (is_among_entries (present ++ f ∷ []) e.id)) es (f ∷ [])
     ∙ (λ i. others es h i ++ own i)
-    ∙ append_none (filter (λ (e : EntryFacts). not (is_among_entries present e.id)) es)
+    ∙ append-nil (filter (λ (e : EntryFacts). not (is_among_entries present e.id)) es)
   where
     own : filter (λ (e : EntryFacts). not (is_among_entries (present ++ f ∷ []) e.id)) (f ∷ []) ≡ []
     own =
@@ -125,7 +123,7 @@ gone_more present es f h =
     others [] n = refl
     others (x ∷ xs) n =
         let same : is_among_entries (present ++ f ∷ []) x.id ≡ is_among_entries present x.id =
-        any_last (λ (e : EntryFacts). uid_eq e.id x.id) present f ∙ ap (λ b. is_among_entries present x.id || b) n.0 ∙ or_none (is_among_entries present x.id) in
+        any_last (λ (e : EntryFacts). uid_eq e.id x.id) present f ∙ ap (λ b. is_among_entries present x.id || b) n.0 ∙ or_false (is_among_entries present x.id) in
         λ i. cond (not (same i)) (x ∷ others xs n.1 i) (others xs n.1 i)
 
 -- ---- names
@@ -136,7 +134,7 @@ name_stays present f e h =
     ap (λ b. if not b then e.rdn else with_id e.id e.rdn)
     (any_last (λ g. contends_with e g && is_before g e) present f
     ∙ ap (λ b. list_any (λ g. contends_with e g && is_before g e) present || b) h
-    ∙ or_none (list_any (λ g. contends_with e g && is_before g e) present))
+    ∙ or_false (list_any (λ g. contends_with e g && is_before g e) present))
 
 -- and the new one has its name where none contends with it
 pub name_new : (present : List EntryFacts) (f : EntryFacts) → list_any (λ g. contends_with f g && is_before g f) present ≡ false → (contends_with f f && is_before f f) ≡ false → shown_rdn (present ++ f ∷ []) f ≡ f.rdn

@@ -19,12 +19,11 @@ use Rattle.repl_data.proofs.Orders.{bytes_total, bytes_exact}
 use Rattle.repl_data.proofs.CsnTests.{csn_lt-trans, csn_le-lt_trans}
 use Rattle.repl_data.proofs.InOrder.{in_order_by-append, is_equal}
 use Rattle.repl_data.proofs.KeyPlaces.{is_less}
-use Rattle.repl_data.proofs.Raised.{raised_val, val_facts-append, same_attr}
+use Rattle.repl_data.proofs.Raised.{raised_val, val_facts-append}
 use Rattle.repl_data.proofs.SameView.{stamp_of}
 use Rattle.repl_data.proofs.Sound.{not_both}
 use Rattle.repl_data.proofs.Steps.{flat_map-append, filter-append}
 use Rattle.repl_data.proofs.Loops.{all_append}
-use Rattle.ldap_rules.proofs.OwnNames.{all_mono, all_filter}
 use Rattle.plain_effect.proofs.Normal.{own, listed, put_key, listed_same}
 use Rattle.plain_effect.proofs.Choices.{Choice, Fits, chosen, keys_with, raised_all, says, Agree, IsBelow, IsWithin, IsMoved, fits_chosen, rises_with, after_listed, mod_key}
 use Rattle.plain_effect.proofs.Below.{next_stamp}

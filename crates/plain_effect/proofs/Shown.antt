@@ -21,13 +21,15 @@ use Rattle.repl_data.specs.View.{vals_at}
 use Rattle.repl_data.proofs.Orders.{bytes_total}
 use Rattle.repl_data.proofs.CsnTests.{csn_lt-zero, csn_lt-irreflexive, csn_le-from_not}
 use Rattle.repl_data.proofs.InOrder.{is_equal}
-use Rattle.repl_data.proofs.Raised.{map-append, same_attr}
+use Rattle.repl_data.proofs.Raised.{map-append}
 use Rattle.repl_data.proofs.Sound.{not_both}
 use Rattle.repl_data.proofs.Steps.{filter-append}
 use Rattle.ldap_rules.specs.Ordered.{Rises, val_key, attr_name}
 use Rattle.ldap_rules.proofs.Places.{above_others, is_same, equal_key}
 use Rattle.ldap_rules.proofs.Goods.{IsGood}
 use Rattle.repl_data.proofs.Loops.{all_map}
+use Rattle.repl_data.proofs.SameView.{same_attr}
+use Rattle.repl_data.proofs.Bools.{and_false}
 
 abbrev put_name : AttrKey → List AttrKey → List AttrKey
 put_name = put_by (λ (t : AttrKey). t.name) bytes_cmp
@@ -198,10 +200,6 @@ by_place rdn t v w = refl
 same_place : (b l : Bool) → first_of_two l b b ≡ l
 same_place true l = refl
 same_place false l = refl
-
-and_false : (b : Bool) → (b && false) ≡ false
-and_false true = refl
-and_false false = refl
 
 pub not_before_itself : (rdn : Rdn) (t : AttrKey) (v : ValFacts) → shows_before rdn t v v ≡ false
 not_before_itself rdn t v =

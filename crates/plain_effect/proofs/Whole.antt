@@ -17,12 +17,13 @@ use Rattle.repl_data.specs.Stamps.{Act, mod_acts, mods_acts}
 use Rattle.repl_data.specs.Facts.{ValFacts, AttrFacts, is_act_on, keys_named, val_facts, attr_facts, is_in_name, is_held, shows_before, vals_shown}
 use Rattle.repl_data.specs.Plain.{values_after}
 use Rattle.repl_data.proofs.Orders.{bytes_total, bytes_exact}
-use Rattle.repl_data.proofs.InOrder.{in_order_by-Rises, either_true}
+use Rattle.repl_data.proofs.InOrder.{in_order_by-Rises}
 use Rattle.repl_data.proofs.KeyPlaces.{is_same}
 use Rattle.repl_data.proofs.SameView.{stamp_of}
 use Rattle.repl_data.proofs.Sound.{neither, not_both}
 use Rattle.repl_data.proofs.Steps.{filter-append}
-use Rattle.ldap_rules.proofs.OwnNames.{all_filter}
+use Rattle.repl_data.proofs.Bools.{either_true}
+use Rattle.repl_data.proofs.Loops.{all_filter}
 use Rattle.plain_effect.proofs.Normal.{own, opt, listed, listed_same, all_keys}
 use Rattle.plain_effect.proofs.Choices.{Choice, Fits, chosen, fits_chosen, says, Agree, IsBelow, raised_all}
 use Rattle.plain_effect.proofs.Runs.{on, acts_from, mods_on, step, chosen_all, keys_all, vals_all, AreRising, vals_listed, run_key, facts_more, keys_more}

@@ -7,8 +7,8 @@ use Rattle.repl_data.specs.declared.change.Mod.{Mod}
 use Rattle.repl_data.specs.Order.{bytes_cmp, bytes_eq}
 use Rattle.repl_data.specs.Types.{is_single}
 use Rattle.repl_data.proofs.InOrder.{is_equal}
-use Rattle.repl_data.proofs.Raised.{same_attr}
 use Rattle.repl_data.proofs.Sound.{neither, not_both}
+use Rattle.repl_data.proofs.SameView.{same_attr}
 use Rattle.rule_values.specs.Written.{Values, is_modified, replaced, write_before, written}
 use Rattle.rule_values.specs.Modify.{after, has_second}
 use Rattle.ldap_rules.proofs.Modified.{no_second}

@@ -1,8 +1,8 @@
 -- THE VIEW AFTER ONE ADD MORE, where all changes are adds.
-use Rattle.std.proofs.Common.{◌≡◌, Bool, true, false, cond, List, [], ◌∷◌, ◌++◌, Result, Ok, Err, map, refl, sym, ap, subst, ◌∙◌, append_assoc, inl, inr}
+use Rattle.std.proofs.Common.{◌≡◌, Bool, true, false, cond, List, [], ◌∷◌, ◌++◌, Result, Ok, Err, map, refl, sym, ap, subst, ◌∙◌, append_assoc, append-nil}
 use Rattle.std.specs.Prelude.{◌||◌, flat_map, OnOk}
 use Rattle.std.specs.List.{list_any, list_all, AllByRecursion}
-use Rattle.std.specs.Ordering.{is_eq, is_lt, ordering_reverse}
+use Rattle.std.specs.Ordering.{is_eq}
 use Rattle.std.specs.declared.cmp.Ordering.TheVariants.{Less}
 use Rattle.std.proofs.lemmas.Cmp.{tied_itself}
 use Rattle.repl_data.specs.declared.csn.Csn.{Csn}
@@ -12,23 +12,24 @@ use Rattle.repl_data.specs.declared.change.Body.{Body}
 use Rattle.repl_data.specs.declared.change.Body.TheVariants.{Add, Mod as Modify, Ren, Del}
 use Rattle.repl_data.specs.declared.change.Change.{Change}
 use Rattle.repl_data.specs.declared.change.Suffix.{Suffix}
-use Rattle.repl_data.specs.Order.{csn_cmp, csn_eq, csn_lt, uid_cmp, uid_eq, suffix_id, zero_csn, greatest, later, latest_or}
+use Rattle.repl_data.specs.Order.{csn_eq, csn_lt, uid_cmp, uid_eq, suffix_id, zero_csn, greatest, later, latest_or}
 use Rattle.repl_data.specs.Check.{is_out_of_order}
 use Rattle.repl_data.specs.Stamps.{of_entry, suffix_acts, body_acts, acts_on}
 use Rattle.repl_data.specs.Facts.{EntryFacts, attrs_facts, names_given, parents_given, deaths, own_facts, entry_facts, ids_added, added_ids, ids_known, all_facts}
 use Rattle.repl_data.specs.Closed.{IsArrival, is_sound, is_known}
 use Rattle.repl_data.specs.Presence.{is_among_entries}
 use Rattle.repl_data.specs.View.{DirectoryView, PresentEntry, view_of_facts, view_of}
-use Rattle.repl_data.proofs.Orders.{csn_total, csn_exact, uid_total, uid_exact}
+use Rattle.repl_data.proofs.Orders.{csn_exact, uid_total, uid_exact}
 use Rattle.repl_data.proofs.InOrder.{Rises, is_equal, in_order_by-Rises}
 use Rattle.repl_data.proofs.Sound.{both_true, not_both, not_false, neither, sound_order, sound_rid}
-use Rattle.repl_data.proofs.Steps.{flat_map-append, append_none, all_facts-append}
-use Rattle.repl_data.proofs.ClosedLaws.{zero_least}
+use Rattle.repl_data.proofs.Steps.{flat_map-append, all_facts-append}
 use Rattle.repl_data.proofs.Arrival.{first_of_entry, all_facts-added}
 use Rattle.plain_view.specs.Seen.{present_entry}
 use Rattle.plain_view.specs.Growth.{adds_entry, is_add, no_suffix, facts_alone, grown, HasRisingIds, is_among_present}
 use Rattle.repl_data.proofs.Loops.{map_map, all_append}
-use Rattle.repl_data.proofs.Known.{any_map, eq_turned, either_on, known_ids}
+use Rattle.repl_data.proofs.Known.{any_map, eq_turned, known_ids}
+use Rattle.repl_data.proofs.Bools.{either_second}
+use Rattle.repl_data.proofs.CsnTests.{csn_lt-zero, csn_lt-irreflexive}
 use Rattle.plain_view.proofs.Grown.{IsPlain, put_facts, all_put, view_plain, view_grown, entry_id}
 
 -- an add of its own id
@@ -57,22 +58,13 @@ last_ones P [] ys h = h
 last_ones P (x ∷ xs) ys h = last_ones P xs ys h.1
 
 -- WHAT ADDS SAY OF AN ENTRY
-not_below_zero : (c : Csn) → csn_lt c zero_csn ≡ false
-not_below_zero c = elim (zero_least c) [
-  | inl l ↦ ap is_lt (csn_total.antisymm c zero_csn ∙ ap ordering_reverse l)
-  | inr z ↦ ap (λ k. is_lt (csn_cmp k zero_csn)) (sym z)
-]
-
-not_below_self : (c : Csn) → csn_lt c c ≡ false
-not_below_self c = ap is_lt (tied_itself csn_total c)
-
 -- names that all bear one CSN
 first_named : (k : Csn) (x r : Csn × Rdn) → x.0 ≡ k → csn_lt k r.0 ≡ false → (later x r).0 ≡ k
 first_named k x r e h = ap (λ b. (cond b r x).0) (ap (λ c. csn_lt c r.0) e ∙ h) ∙ e
 
 named_within : (k : Csn) (none : Csn × Rdn) (xs : List (Csn × Rdn)) → csn_lt k none.0 ≡ false → AllByRecursion (λ x. x.0 ≡ k) xs → csn_lt k (latest_or none xs).0 ≡ false
 named_within k none [] h g = h
-named_within k none (x ∷ xs) h g = ap (csn_lt k) (first_named k x (latest_or none xs) g.0 (named_within k none xs h g.1)) ∙ not_below_self k
+named_within k none (x ∷ xs) h g = ap (csn_lt k) (first_named k x (latest_or none xs) g.0 (named_within k none xs h g.1)) ∙ csn_lt-irreflexive k
 
 named_by : (k : Csn) (none : Csn × Rdn) (c : Csn) (b : Body) (rest : List (Csn × Rdn)) → adds_entry b ≡ true → c ≡ k → csn_lt k none.0 ≡ false → AllByRecursion (λ x. x.0 ≡ k) rest → (latest_or none (names_given c b ++ rest)).0 ≡ k
 named_by k none c (Add parent rdn attrs) rest h e z g = first_named k (c, rdn) (latest_or none rest) e (named_within k none rest z g)
@@ -112,7 +104,7 @@ no_deaths k (d ∷ own) h = λ i. no_death d.csn d.body h.0.0 i ++ no_deaths k o
 plain_facts : (suffix : Suffix) (u : Uid) (d : Change) (own : List Change) → AllByRecursion (IsAddOf u.csn) (d ∷ own) → IsPlain (own_facts suffix u (d ∷ own))
 plain_facts suffix u d own h = (
   ap (λ ds. csn_eq (greatest ds) zero_csn) (no_deaths u.csn (d ∷ own) h),
-  named_by u.csn (zero_csn, suffix.rdn) d.csn d.body (names_in own) h.0.0 h.0.1 (not_below_zero u.csn) (all_names u.csn own h.1),
+  named_by u.csn (zero_csn, suffix.rdn) d.csn d.body (names_in own) h.0.0 h.0.1 (csn_lt-zero u.csn) (all_names u.csn own h.1),
 )
 
 plain_own : (suffix : Suffix) (u : Uid) (own : List Change) (c : Change) → AllByRecursion (IsAddOf u.csn) own → IsAddOf u.csn c → IsPlain (own_facts suffix u (own ++ c ∷ []))
@@ -130,7 +122,7 @@ of_one u (d ∷ ds) h = by (uid_eq d.target u) refl (of_one u ds h.1)
 -- ALL ENTRIES
 any_append : {X : Type 0} (q : X → Bool) (xs ys : List X) → list_any q ys ≡ true → list_any q (xs ++ ys) ≡ true
 any_append q [] ys h = h
-any_append q (x ∷ xs) ys h = either_on (q x) (list_any q (xs ++ ys)) (any_append q xs ys h)
+any_append q (x ∷ xs) ys h = either_second (q x) (list_any q (xs ++ ys)) (any_append q xs ys h)
 
 ids_of_add : (u : Uid) (b : Body) → adds_entry b ≡ true → list_any (uid_eq u) (ids_added u b ++ []) ≡ true
 ids_of_add u (Add parent rdn attrs) h = ap (λ o. is_eq o || false) (tied_itself uid_total u)
@@ -140,7 +132,7 @@ ids_of_add u Del h = absurd (not_both false h refl)
 
 known_then : (xs : List Change) (c : Change) → is_add c ≡ true → is_known (xs ++ c ∷ []) c.target ≡ true
 known_then xs c h =
-    either_on (uid_eq c.target suffix_id) (list_any (uid_eq c.target) (added_ids (xs ++ c ∷ [])))
+    either_second (uid_eq c.target suffix_id) (list_any (uid_eq c.target) (added_ids (xs ++ c ∷ [])))
     (ap (list_any (uid_eq c.target)) (flat_map-append (λ (d : Change). ids_added d.target d.body) xs (c ∷ []))
     ∙ any_append (uid_eq c.target) (added_ids xs) (ids_added c.target c.body ++ []) (ids_of_add c.target c.body h))
 
@@ -150,7 +142,7 @@ plain_more suffix xs c h g p =
     (all_put IsPlain (own_facts suffix c.target (of_entry xs c.target ++ c ∷ [])) (all_facts suffix xs) (plain_own suffix c.target (of_entry xs c.target) c (of_one c.target xs h) (g.0, sym g.1)) p)
 
 plain_all : (suffix : Suffix) (done rest : List Change) → AllByRecursion IsOwnAdd done → AllByRecursion IsOwnAdd rest → AllByRecursion IsPlain (all_facts suffix done) → AllByRecursion IsPlain (all_facts suffix (done ++ rest))
-plain_all suffix done [] h g p = subst (λ xs. AllByRecursion IsPlain (all_facts suffix xs)) (sym (append_none done)) p
+plain_all suffix done [] h g p = subst (λ xs. AllByRecursion IsPlain (all_facts suffix xs)) (sym (append-nil done)) p
 plain_all suffix done (c ∷ rest) h g p =
     subst (λ xs. AllByRecursion IsPlain (all_facts suffix xs)) (append_assoc done (c ∷ []) rest)
     (plain_all suffix (done ++ c ∷ []) rest (all_append IsOwnAdd done (c ∷ []) h (g.0, tt)) g.1 (plain_more suffix done c h g.0 p))
@@ -192,7 +184,7 @@ name_alone rdn c b = latest_or (zero_csn, rdn) (names_given c b ++ [])
 
 same_name : (r s : Rdn) (c : Csn) (b : Body) → adds_entry b ≡ true → name_alone r c b ≡ name_alone s c b
 same_name r s c (Add parent rdn attrs) h =
-    ap (λ o. cond o (zero_csn, r) (c, rdn)) (not_below_zero c) ∙ sym (ap (λ o. cond o (zero_csn, s) (c, rdn)) (not_below_zero c))
+    ap (λ o. cond o (zero_csn, r) (c, rdn)) (csn_lt-zero c) ∙ sym (ap (λ o. cond o (zero_csn, s) (c, rdn)) (csn_lt-zero c))
 same_name r s c (Modify mods) h = absurd (not_both false h refl)
 same_name r s c (Ren rdn dropped) h = absurd (not_both false h refl)
 same_name r s c Del h = absurd (not_both false h refl)

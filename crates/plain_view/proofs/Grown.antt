@@ -19,8 +19,8 @@ use Rattle.repl_data.proofs.Sound.{neither, not_both}
 use Rattle.plain_view.specs.Seen.{present_entry, tombstone}
 use Rattle.plain_view.specs.Growth.{gives_way, stands_before, yields, joined, renamed, fresh, placed, id_of, grown, HasRisingIds, is_among_present}
 use Rattle.plain_view.proofs.Places.{insert_is}
-use Rattle.repl_data.proofs.Known.{any_map, eq_turned, either_on}
-use Rattle.repl_data.proofs.Bools.{and_false}
+use Rattle.repl_data.proofs.Known.{any_map, eq_turned}
+use Rattle.repl_data.proofs.Bools.{and_false, either_second, either_turned}
 
 abbrev pub facts_id : EntryFacts → Uid
 facts_id e = e.id
@@ -31,12 +31,6 @@ put_facts = put_by facts_id uid_cmp
 -- it is live, and the change that added it gave it its name
 abbrev pub IsPlain : EntryFacts → Type 0
 IsPlain e = (is_live e ≡ true) × (e.named ≡ e.id.csn)
-
-either_turned : (a b c : Bool) → (b || (a || c)) ≡ (a || (b || c))
-either_turned true true c = refl
-either_turned true false c = refl
-either_turned false true c = refl
-either_turned false false c = refl
 
 lt_self : (u : Uid) → is_lt (uid_cmp u u) ≡ false
 lt_self u = ap is_lt (tied_itself uid_total u)
@@ -52,7 +46,7 @@ covered : (ps ds : List EntryFacts) → ((u : Uid) → is_among_entries ds u ≡
 covered ps [] h = refl
 covered ps (d ∷ ds) h =
     ap (λ b. cond (not b) (d ∷ filter (λ (e : EntryFacts). not (is_among_entries ps e.id)) ds) (filter (λ (e : EntryFacts). not (is_among_entries ps e.id)) ds)) (h d.id (ap (λ o. is_eq o || is_among_entries ds d.id) (tied_itself uid_total d.id)))
-    ∙ covered ps ds (λ u g. h u (either_on (uid_eq d.id u) (is_among_entries ds u) g))
+    ∙ covered ps ds (λ u g. h u (either_second (uid_eq d.id u) (is_among_entries ds u) g))
 
 none_gone : (es : List EntryFacts) → AllByRecursion IsPlain es → gone_of es ≡ []
 none_gone es h = ap (λ ps. filter (λ (e : EntryFacts). not (is_among_entries ps e.id)) es) (present_all es h) ∙ covered es es (λ u g. g)

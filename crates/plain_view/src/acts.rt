@@ -6,16 +6,15 @@ ghost use Rattle.repl_data.specs.declared.change.Ava.{Ava};
 ghost use Rattle.repl_data.specs.declared.change.Attr.{Attr};
 ghost use Rattle.repl_data.specs.declared.change.Change.{Change};
 ghost use Rattle.repl_data.specs.Order.{zero_csn, bytes_eq, uid_eq, suffix_id, stamp};
-ghost use Rattle.repl_data.specs.Stamps.{Adds, Deletes, Clears, adds, mod_acts, mods_acts, body_acts, text_val, suffix_acts, of_entry, acts_on};
+ghost use Rattle.repl_data.specs.Stamps.{Adds, Deletes, Clears, adds, mod_acts, mods_acts, body_acts, suffix_acts, of_entry, acts_on};
 ghost use Rattle.repl_data.specs.Facts.{attr_of, is_act_on, keys_named, additions, deletions, clearings};
 ghost use Rattle.plain_view.specs.Seen.{act_of};
 
 use crate::copied::Copied;
-use crate::order::same_id;
 use crate::stamp::Stamp;
 use repl_data::{
     Attr, AttrKey, Ava, Body, Bytes, BytesList, Change, Csn, Items, Mod, ModKind, NoMemory, Suffix,
-    Uid, Val,
+    Uid, Val, same_id, text_val,
 };
 use std::alloc::Global;
 
@@ -194,16 +193,6 @@ fn text(alloc: Global, bytes: &[u8]) -> Result<Bytes, NoMemory>
     ensures { IfOk result (λ t. t ≡ bytes.now) }
 {
     Bytes::from_slice(alloc, bytes)
-}
-
-/// A value whose key is its text.
-pub(crate) fn text_val(alloc: Global, bytes: &[u8]) -> Result<Val, NoMemory>
-    ensures { IfOk result (λ v. v ≡ text_val bytes.now) }
-{
-    Ok(Val {
-        key: text(alloc, bytes)?,
-        spelled: text(alloc, bytes)?,
-    })
 }
 
 pub(crate) fn named(alloc: Global, name: &[u8]) -> Result<AttrKey, NoMemory>

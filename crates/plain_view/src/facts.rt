@@ -12,10 +12,11 @@ ghost use Rattle.plain_view.specs.Seen.{act_of};
 
 use crate::acts::{Act, ActList, acts_on};
 use crate::copied::{Copied, push_copy, push_if, push_some};
-use crate::order::{greatest, latest_or, same_id};
+use crate::order::{greatest, latest_or};
 use crate::stamp::Stamp;
 use repl_data::{
-    AttrKey, Body, Bytes, BytesList, Change, Items, NoMemory, Rdn, Suffix, Uid, UidList, same_bytes,
+    AttrKey, Body, Bytes, BytesList, Change, Items, NoMemory, Rdn, Suffix, Uid, UidList,
+    same_bytes, same_id,
 };
 use shown_entry::in_order;
 use std::alloc::Global;

@@ -1,17 +1,10 @@
 //! The latest and the greatest of what is stamped.
 
 ghost use Rattle.std.specs.Prelude.{◌≡◌};
-ghost use Rattle.repl_data.specs.Order.{uid_eq, later, latest_or, csn_max, greatest};
+ghost use Rattle.repl_data.specs.Order.{later, latest_or, csn_max, greatest};
 
 use crate::stamp::Stamp;
-use repl_data::{Items, Uid};
-use shown_entry::Ranked;
-
-pub(crate) fn same_id(a: Uid, b: Uid) -> bool
-    ensures { result ≡ uid_eq a b }
-{
-    a.compare(&b).is_eq()
-}
+use repl_data::Items;
 
 /// What stands beside the later stamp, with the stamp.
 fn later<T: Drop>(a: (Stamp, T), b: (Stamp, T)) -> (Stamp, T)

@@ -8,9 +8,8 @@ ghost use Rattle.repl_data.specs.Presence.{is_live, is_child, present_of, is_amo
 
 use crate::copied::{Copied, push_if};
 use crate::facts::{EntryFacts, EntryFactsList};
-use crate::order::same_id;
 use crate::stamp::Stamp;
-use repl_data::{Items, NoMemory, Uid};
+use repl_data::{Items, NoMemory, Uid, same_id};
 use std::alloc::Global;
 
 impl EntryFacts {

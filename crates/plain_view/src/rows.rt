@@ -9,8 +9,7 @@ ghost use Rattle.plain_view.specs.Seen.{kept, present_entry, tombstone};
 use crate::copied::Copied;
 use crate::facts::EntryFacts;
 use crate::names::same_rdn;
-use crate::order::same_id;
-use repl_data::{Items, NoMemory, Rdn, ShownList, Standing, Uid};
+use repl_data::{Items, NoMemory, Rdn, ShownList, Standing, Uid, same_id};
 use std::alloc::Global;
 use std::marker::Model;
 

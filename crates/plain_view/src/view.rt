@@ -15,14 +15,13 @@ ghost use Rattle.plain_view.specs.Listing.{child, listed};
 use crate::copied::Copied;
 use crate::facts::all_facts;
 use crate::names::same_rdn;
-use crate::order::same_id;
 use crate::presence::{gone_of, present_of};
 use crate::rows::{
     PresentEntry, PresentList, Tombstone, TombstoneList, present_entries, tombstones,
 };
 use repl_data::{
     Bytes, Change, Items, NoMemory, Rdn, Shown, ShownEntry, ShownEntryList, Standing, Suffix, Uid,
-    UidList, View, or,
+    UidList, View, or, same_id,
 };
 use shown_entry::{Ranked, dn_text, in_order, tombstone_rdn};
 use std::alloc::Global;
@@ -469,6 +468,22 @@ impl View for PlainView {
     fn standing(&self, id: Uid) -> Option<Standing> {
         match present_at(self.present.as_slice(), id) {
             Some(e) => Some(e.standing()),
+            None => None,
+        }
+    }
+
+    /// Takes time in proportion to the tombstones.
+    fn tombstone_own(&self, id: Uid) -> Option<&[Shown]> {
+        match gone_at(self.gone.as_slice(), id) {
+            Some(e) => Some(e.users().as_slice()),
+            None => None,
+        }
+    }
+
+    /// Takes time in proportion to the tombstones.
+    fn tombstone_parent(&self, id: Uid) -> Option<Uid> {
+        match gone_at(self.gone.as_slice(), id) {
+            Some(e) => Some(e.parent),
             None => None,
         }
     }

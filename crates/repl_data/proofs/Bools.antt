@@ -30,3 +30,45 @@ and-both false b e h = e
 pub either_false : (a b : Bool) → a ≡ false → b ≡ false → (a || b) ≡ false
 either_false true b h g = cc
 either_false false b h g = g
+
+-- ---- one of two
+
+pub or_false : (a : Bool) → (a || false) ≡ a
+or_false true = refl
+or_false false = refl
+
+pub or-left : (a b : Bool) → (a || b) ≡ false → a ≡ false
+or-left true b h = h
+or-left false b h = refl
+
+pub or-right : (a b : Bool) → (a || b) ≡ false → b ≡ false
+or-right true b h = cc
+or-right false b h = h
+
+pub either_first : (a b : Bool) → a ≡ true → (a || b) ≡ true
+either_first true b h = refl
+either_first false b h = cc
+
+pub either_second : (a b : Bool) → b ≡ true → (a || b) ≡ true
+either_second true b h = refl
+either_second false b h = h
+
+pub either_true : {G : Type 0} (a b : Bool) → (a || b) ≡ true → (a ≡ true → G) → (b ≡ true → G) → G
+either_true true b h p q = p refl
+either_true false b h p q = q h
+
+pub either_again : (a b : Bool) → (a || b) ≡ (a || (a || b))
+either_again true b = refl
+either_again false b = refl
+
+pub either_turned : (a b c : Bool) → (b || (a || c)) ≡ (a || (b || c))
+either_turned true true c = refl
+either_turned true false c = refl
+either_turned false true c = refl
+either_turned false false c = refl
+
+-- ---- by cases
+
+pub cases : {G : Type 0} (b : Bool) → (b ≡ true → G) → (b ≡ false → G) → G
+cases true f g = f refl
+cases false f g = g refl

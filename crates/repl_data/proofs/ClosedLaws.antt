@@ -1,10 +1,10 @@
 -- What is known of the entries of a closed set: it stands in rising order of id, each parent below its child.
-use Rattle.std.proofs.Common.{◌≡◌, ℕ, List, [], ◌∷◌, refl, sym, ap, subst, ◌∙◌, inl, inr, ◌<◌, arith}
+use Rattle.std.proofs.Common.{◌≡◌, ℕ, List, [], ◌∷◌, ◌++◌, refl, sym, ap, subst, ◌∙◌, inl, inr, ◌<◌, arith}
 use Rattle.std.specs.Prelude.{Bool, true, false, cond, ◌||◌, ◌⊎◌, map, filter, flat_map, if◌then◌else◌}
 use Rattle.std.specs.List.{AllByRecursion, list_any, list_all}
 use Rattle.std.specs.declared.cmp.Ordering.{Ordering}
 use Rattle.std.specs.declared.cmp.Ordering.TheVariants.{Less, Equal, Greater}
-use Rattle.std.specs.Ordering.{is_lt, ordering_reverse, nat_cmp, ordering_then}
+use Rattle.std.specs.Ordering.{ordering_reverse, nat_cmp, ordering_then}
 use Rattle.repl_data.specs.declared.csn.Csn.{Csn}
 use Rattle.repl_data.specs.declared.csn.Uid.{Uid}
 use Rattle.repl_data.specs.declared.change.Body.{Body}
@@ -12,9 +12,9 @@ use Rattle.repl_data.specs.declared.change.Body.TheVariants.{Add, Mod as Modify,
 use Rattle.repl_data.specs.declared.change.Change.{Change}
 use Rattle.repl_data.specs.declared.change.Suffix.{Suffix}
 use Rattle.repl_data.specs.Order.{csn_cmp, csn_lt, csn_eq, uid_cmp, uid_eq, suffix_id, zero_csn, latest_or}
-use Rattle.repl_data.specs.Check.{is_out_of_order}
+use Rattle.repl_data.specs.Check.{is_out_of_order, is_of_root}
 use Rattle.repl_data.specs.Stamps.{of_entry}
-use Rattle.repl_data.specs.Facts.{EntryFacts, entry_facts, parents_given, added_ids, ids_known, all_facts}
+use Rattle.repl_data.specs.Facts.{EntryFacts, entry_facts, deaths, parents_given, added_ids, ids_known, all_facts}
 use Rattle.repl_data.specs.Closed.{is_sound, IsClosed}
 use Rattle.std.specs.Cmp.{ranks}
 use Rattle.std.proofs.lemmas.Cmp.{by_ranked}
@@ -23,7 +23,8 @@ use Rattle.repl_data.proofs.InOrder.{Rises, in_order_by-Rises, is_equal}
 use Rattle.repl_data.proofs.PresenceLaws.{present_of-rule, present_of-unique}
 use Rattle.repl_data.specs.Presence.{is_live, is_child, present_of, HasParentBelow, ObeysRule, is_present_in}
 use Rattle.repl_data.proofs.Loops.{all_append}
-use Rattle.repl_data.proofs.Sound.{not_both, both_true, neither, not_false, sound_order}
+use Rattle.repl_data.proofs.Sound.{not_both, both_true, neither, not_false, sound_order, sound_root}
+use Rattle.repl_data.proofs.KeyPlaces.{is_less}
 
 abbrev id_of : EntryFacts → Uid
 id_of e = e.id
@@ -70,15 +71,10 @@ latest_or-All P none (x ∷ xs) h g = by (csn_lt x.0 (latest_or none xs).0) (lat
     by false k = g.0
 
 -- a sound Add names a parent below it
-pub less : (o : Ordering) → is_lt o ≡ true → o ≡ Less
-less Less h = refl
-less Equal h = absurd (not_both false h refl)
-less Greater h = absurd (not_both false h refl)
-
 parents_below : (c : Csn) (u : Uid) (b : Body) → is_out_of_order c u b ≡ false → AllByRecursion (λ (p : Csn × Uid). uid_cmp p.1 u ≡ Less) (parents_given c b)
 parents_below c u (Add parent rdn attrs) h =
     let own : u.csn ≡ c = csn_exact u.csn c (is_equal _ (not_false _ (neither _ _ h).0)) in
-    (subst (λ w. csn_cmp parent.csn w ≡ Less) (sym own) (less _ (not_false _ (neither _ _ h).1)), tt)
+    (subst (λ w. csn_cmp parent.csn w ≡ Less) (sym own) (is_less _ (not_false _ (neither _ _ h).1)), tt)
 parents_below c u (Modify mods) h = tt
 parents_below c u (Ren rdn dropped) h = tt
 parents_below c u Del h = tt
@@ -119,3 +115,22 @@ closed_presence suffix xs h = present_of-rule (all_facts suffix xs) (all_facts-R
 pub closed_presence-unique : (suffix : Suffix) (xs : List Change) (p : EntryFacts → Bool) → IsClosed xs
     → AllByRecursion (ObeysRule p (all_facts suffix xs)) (all_facts suffix xs) → filter p (all_facts suffix xs) ≡ present_of (all_facts suffix xs)
 closed_presence-unique suffix xs p h = present_of-unique p (all_facts suffix xs) (all_facts-Rises suffix xs) (all_facts-below suffix xs h.sound)
+
+-- the suffix entry has no death
+pub no_deaths : (xs : List Change) → list_all is_sound xs ≡ true → flat_map (λ (c : Change). deaths c.csn c.body) (of_entry xs suffix_id) ≡ []
+no_deaths [] h = refl
+no_deaths (c ∷ xs) h =
+    let h' = both_true _ _ h in
+    by (uid_eq c.target suffix_id) refl (no_deaths xs h'.1) (of_body c.body (sound_root c h'.0))
+  where
+    of_body : (b : Body) → is_of_root c.target b ≡ false → uid_eq c.target suffix_id ≡ true → deaths c.csn b ≡ []
+    of_body (Add parent rdn attrs) r own = refl
+    of_body (Modify mods) r own = refl
+    of_body (Ren rdn dropped) r own = refl
+    of_body Del r own = absurd (not_both _ own r)
+
+    by : (b : Bool) → uid_eq c.target suffix_id ≡ b → flat_map (λ (d : Change). deaths d.csn d.body) (of_entry xs suffix_id) ≡ []
+        → (uid_eq c.target suffix_id ≡ true → deaths c.csn c.body ≡ [])
+        → flat_map (λ (d : Change). deaths d.csn d.body) (cond b (c ∷ of_entry xs suffix_id) (of_entry xs suffix_id)) ≡ []
+    by true own rest none = (λ i. none own i ++ rest i)
+    by false own rest none = rest

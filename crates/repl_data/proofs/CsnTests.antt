@@ -8,13 +8,9 @@ use Rattle.std.specs.Ordering.{nat_cmp, ordering_then, ordering_reverse, is_lt, 
 use Rattle.repl_data.specs.declared.csn.Csn.{Csn}
 use Rattle.repl_data.specs.Order.{csn_cmp, csn_lt, csn_le, csn_eq, zero_csn}
 use Rattle.repl_data.proofs.Orders.{csn_total, csn_exact}
+use Rattle.repl_data.proofs.KeyPlaces.{is_less}
 
 -- tests of an ordering
-lt_is : (o : Ordering) → is_lt o ≡ true → o ≡ Less
-lt_is Less e = refl
-lt_is Equal e = absurd cc
-lt_is Greater e = absurd cc
-
 both_not : (o : Ordering) → is_lt o ≡ false → is_lt (ordering_reverse o) ≡ false → o ≡ Equal
 both_not Less e f = absurd cc
 both_not Equal e f = refl
@@ -34,7 +30,7 @@ pub csn_lt-irreflexive : (a : Csn) → csn_lt a a ≡ false
 csn_lt-irreflexive a = ap is_lt (tied_itself csn_total a)
 
 pub csn_lt-trans : (a b c : Csn) → csn_lt a b ≡ true → csn_lt b c ≡ true → csn_lt a c ≡ true
-csn_lt-trans a b c p q = ap is_lt (csn_total.trans a b c (lt_is (csn_cmp a b) p) (lt_is (csn_cmp b c) q))
+csn_lt-trans a b c p q = ap is_lt (csn_total.trans a b c (is_less (csn_cmp a b) p) (is_less (csn_cmp b c) q))
 
 pub csn_lt-one_way : (a b : Csn) → csn_lt a b ≡ true → csn_lt b a ≡ false
 csn_lt-one_way a b p = ap is_lt (csn_total.antisymm b a) ∙ one_way (csn_cmp a b) p

@@ -10,7 +10,7 @@ use Rattle.std.proofs.lemmas.Cmp.{tied_itself}
 use Rattle.repl_data.specs.Order.{bytes_cmp, bytes_eq, put_by, by_order}
 use Rattle.repl_data.specs.Ordered.{Rises, IsAt, IsGap}
 use Rattle.repl_data.proofs.Orders.{bytes_total, bytes_exact, split}
-use Rattle.repl_data.proofs.InOrder.{put-Rises}
+use Rattle.repl_data.proofs.InOrder.{is_equal, put-Rises}
 
 pub above : (a b : List ℕ) → bytes_cmp a b ≡ Less → bytes_cmp b a ≡ Greater
 above a b h = bytes_total.antisymm b a ∙ ap ordering_reverse h
@@ -145,12 +145,18 @@ is_above a k h g =
     (λ e. bytes_total.antisymm k a ∙ ap ordering_reverse e)
 
 pub is_same : (a k : List ℕ) → bytes_eq a k ≡ true → a ≡ k
-is_same a k h = bytes_exact a k (equal (bytes_cmp a k) h)
+is_same a k h = bytes_exact a k (is_equal (bytes_cmp a k) h)
+
+pub same_self : (a : List ℕ) → bytes_eq a a ≡ true
+same_self a = ap is_eq (tied_itself bytes_total a)
+
+pub same_turned : (a b : List ℕ) → bytes_eq a b ≡ bytes_eq b a
+same_turned a b = ap is_eq (bytes_total.antisymm a b) ∙ by (bytes_cmp b a)
   where
-    equal : (o : Ordering) → is_eq o ≡ true → o ≡ Equal
-    equal Less e = let f : false ≡ true = e in cc
-    equal Equal e = refl
-    equal Greater e = let f : false ≡ true = e in cc
+    by : (o : Ordering) → is_eq (ordering_reverse o) ≡ is_eq o
+    by Less = refl
+    by Equal = refl
+    by Greater = refl
 
 -- what holds of all items holds of those that are left
 pub all_removed : {X : Type 0} (P : X → Type 0) (xs : List X) (n : ℕ) → AllByRecursion P xs → AllByRecursion P (remove xs n)

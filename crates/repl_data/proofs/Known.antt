@@ -3,6 +3,7 @@ use Rattle.std.proofs.Common.{◌≡◌, Bool, true, false, cond, List, [], ◌�
 use Rattle.std.specs.Prelude.{◌||◌, not, filter}
 use Rattle.std.specs.List.{list_any}
 use Rattle.std.specs.Ordering.{is_eq, ordering_reverse}
+use Rattle.std.proofs.lemmas.Cmp.{tied_itself}
 use Rattle.std.specs.declared.cmp.Ordering.{Ordering}
 use Rattle.std.specs.declared.cmp.Ordering.TheVariants.{Less, Equal, Greater}
 use Rattle.repl_data.specs.declared.csn.Uid.{Uid}
@@ -16,10 +17,17 @@ use Rattle.repl_data.specs.View.{PresentEntry, Tombstone, view_of, is_known_in}
 use Rattle.repl_data.specs.Closed.{is_known}
 use Rattle.repl_data.proofs.Orders.{uid_total, uid_exact}
 use Rattle.repl_data.proofs.InOrder.{is_equal, any-in_order_by}
+use Rattle.repl_data.proofs.Bools.{either_second}
 
 pub any_map : {X Y : Type 0} (q : Y → Bool) (f : X → Y) (xs : List X) → list_any q (map f xs) ≡ list_any (λ x. q (f x)) xs
 any_map q f [] = refl
 any_map q f (x ∷ xs) = ap (λ r. q (f x) || r) (any_map q f xs)
+
+pub own_id : (u : Uid) → uid_eq u u ≡ true
+own_id u = ap is_eq (tied_itself uid_total u)
+
+pub same_id : (u v : Uid) → uid_eq u v ≡ true → u ≡ v
+same_id u v h = uid_exact u v (is_equal (uid_cmp u v) h)
 
 pub eq_turned : (u v : Uid) → uid_eq u v ≡ uid_eq v u
 eq_turned u v = ap is_eq (uid_total.antisymm u v) ∙ by (uid_cmp v u)
@@ -28,10 +36,6 @@ eq_turned u v = ap is_eq (uid_total.antisymm u v) ∙ by (uid_cmp v u)
     by Less = refl
     by Equal = refl
     by Greater = refl
-
-pub either_on : (a b : Bool) → b ≡ true → (a || b) ≡ true
-either_on true b e = refl
-either_on false b e = e
 
 -- a present entry is one of the entries
 among_present : (es : List EntryFacts) (u : Uid) → is_among_entries (present_of es) u ≡ true → is_among_entries es u ≡ true
@@ -44,7 +48,7 @@ among_present (e ∷ above) u h = by (is_live e || list_any (is_child e.id) (pre
         other : (b : Bool) → (b || is_among_entries (present_of above) u) ≡ true → (is_among_entries (present_of above) u ≡ true → is_among_entries above u ≡ true) → (b || is_among_entries above u) ≡ true
         other true g more = refl
         other false g more = more g
-    by false same g more = either_on (uid_eq e.id u) (is_among_entries above u) (more g)
+    by false same g more = either_second (uid_eq e.id u) (is_among_entries above u) (more g)
 
 -- where u is not present, the entries of its id are those that are gone
 among_gone : (present es : List EntryFacts) (u : Uid) → is_among_entries present u ≡ false → is_among_entries (filter (λ (e : EntryFacts). not (is_among_entries present e.id)) es) u ≡ is_among_entries es u
@@ -79,7 +83,7 @@ known_ids suffix changes u =
 abbrev pub present_entry : List EntryFacts → EntryFacts → PresentEntry
 present_entry present e = record { id = e.id; parent = e.parent; name = e.rdn; shown = shown_rdn present e; is_glue = not (is_live e); attrs = attrs_shown e }
 
-abbrev tombstone : EntryFacts → Tombstone
+abbrev pub tombstone : EntryFacts → Tombstone
 tombstone e = record { id = e.id; parent = e.parent; name = e.rdn; attrs = attrs_shown e }
 
 pub known_by_view : (suffix : Suffix) (changes : List Change) (u : Uid) → is_known_in (view_of suffix changes) u ≡ is_known changes u

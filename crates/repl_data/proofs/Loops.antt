@@ -1,5 +1,5 @@
 -- One more element, as at a step of a loop, and the same from the last element on.
-use Rattle.std.proofs.Common.{◌≡◌, ℕ, suc, ◌+◌, ◌<◌, Bool, true, false, cond, List, [], ◌∷◌, ◌++◌, map, length, get_or, take, drop, set, add-one, refl, ap, sym, ◌∙◌, append_assoc}
+use Rattle.std.proofs.Common.{◌≡◌, ℕ, suc, ◌+◌, ◌<◌, Bool, true, false, cond, List, [], ◌∷◌, ◌++◌, map, length, get_or, take, drop, set, add-one, refl, ap, sym, ◌∙◌, append_assoc, append-nil, length-append, arith}
 use Rattle.std.specs.Prelude.{filter, flat_map, insert}
 use Rattle.std.proofs.lemmas.List.{take_more, set_split}
 use Rattle.std.proofs.Math.Seq.{drop-cons}
@@ -29,6 +29,23 @@ pub all_map : {X Y : Type 0} (P : Y → Type 0) (f : X → Y) (xs : List X) → 
 all_map P f [] h = tt
 all_map P f (x ∷ xs) h = (h.0, all_map P f xs h.1)
 
+pub all_mono : {X : Type 0} (P Q : X → Type 0) → ((x : X) → P x → Q x) → (xs : List X) → AllByRecursion P xs → AllByRecursion Q xs
+all_mono P Q f [] h = tt
+all_mono P Q f (x ∷ xs) h = (f x h.0, all_mono P Q f xs h.1)
+
+pub all_filter : {X : Type 0} (P : X → Type 0) (q : X → Bool) (xs : List X) → AllByRecursion P xs → AllByRecursion P (filter q xs)
+all_filter P q [] h = tt
+all_filter P q (x ∷ xs) h = by (q x) (all_filter P q xs h.1)
+  where
+    by : (b : Bool) → AllByRecursion P (filter q xs) → AllByRecursion P (cond b (x ∷ filter q xs) (filter q xs))
+    by true g = (h.0, g)
+    by false g = g
+
+-- what adds nothing to a length is empty
+pub empty_rest : {X : Type 0} (xs more : List X) → length xs ≡ length (xs ++ more) → more ≡ []
+empty_rest xs [] e = refl
+empty_rest xs (m ∷ more) e = absurd (omega (arith, length-append xs (m ∷ more)))
+
 -- ---- one more element
 
 module _ {X Y : Type 0} where
@@ -40,11 +57,7 @@ module _ {X Y : Type 0} where
   map_more f xs i d l = ap (map f) (take_more xs i d l) ∙ map_append f (take i xs) (get_or xs i d ∷ [])
 
   pub flat_map_more : (f : X → List Y) (xs : List X) (i : ℕ) (d : X) → i < length xs → flat_map f (take (i + 1) xs) ≡ flat_map f (take i xs) ++ f (get_or xs i d)
-  flat_map_more f xs i d l = ap (flat_map f) (take_more xs i d l) ∙ flat_map-append f (take i xs) (get_or xs i d ∷ []) ∙ ap (λ r. flat_map f (take i xs) ++ r) (append_nil (f (get_or xs i d)))
-    where
-      append_nil : (ys : List Y) → ys ++ [] ≡ ys
-      append_nil [] = refl
-      append_nil (y ∷ ys) = ap (λ r. y ∷ r) (append_nil ys)
+  flat_map_more f xs i d l = ap (flat_map f) (take_more xs i d l) ∙ flat_map-append f (take i xs) (get_or xs i d ∷ []) ∙ ap (λ r. flat_map f (take i xs) ++ r) (append-nil (f (get_or xs i d)))
 
 module _ {X : Type 0} where
   pub filter_append : (p : X → Bool) (xs ys : List X) → filter p (xs ++ ys) ≡ filter p xs ++ filter p ys
@@ -55,10 +68,6 @@ module _ {X : Type 0} where
       by true e = ap (λ r. x ∷ r) e
       by false e = e
 
-  pub append_nil : (ys : List X) → ys ++ [] ≡ ys
-  append_nil [] = refl
-  append_nil (y ∷ ys) = ap (λ r. y ∷ r) (append_nil ys)
-
   pub filter_more_yes : (p : X → Bool) (xs : List X) (i : ℕ) (d : X) → i < length xs → p (get_or xs i d) ≡ true → filter p (take (i + 1) xs) ≡ filter p (take i xs) ++ get_or xs i d ∷ []
   filter_more_yes p xs i d l e =
       ap (filter p) (take_more xs i d l) ∙ filter_append p (take i xs) (get_or xs i d ∷ [])
@@ -67,7 +76,7 @@ module _ {X : Type 0} where
   pub filter_more_no : (p : X → Bool) (xs : List X) (i : ℕ) (d : X) → i < length xs → p (get_or xs i d) ≡ false → filter p (take (i + 1) xs) ≡ filter p (take i xs)
   filter_more_no p xs i d l e =
       ap (filter p) (take_more xs i d l) ∙ filter_append p (take i xs) (get_or xs i d ∷ [])
-      ∙ ap (λ b. filter p (take i xs) ++ cond b (get_or xs i d ∷ []) []) e ∙ append_nil (filter p (take i xs))
+      ∙ ap (λ b. filter p (take i xs) ++ cond b (get_or xs i d ∷ []) []) e ∙ append-nil (filter p (take i xs))
 
   -- a filter takes the element or not
   pub filter_more : (p : X → Bool) (xs : List X) (i : ℕ) (d : X) → i < length xs → filter p (take (i + 1) xs) ≡ filter p (take i xs) ++ cond (p (get_or xs i d)) (get_or xs i d ∷ []) []
@@ -90,7 +99,7 @@ module _ {X Y Z : Type 0} where
   map_map_more f h xs i d l = ap (map f) (map_more h xs i d l) ∙ map_append f (map h (take i xs)) (h (get_or xs i d) ∷ [])
 
   pub flat_map_map_more : (f : Y → List Z) (h : X → Y) (xs : List X) (i : ℕ) (d : X) → i < length xs → flat_map f (map h (take (i + 1) xs)) ≡ flat_map f (map h (take i xs)) ++ f (h (get_or xs i d))
-  flat_map_map_more f h xs i d l = ap (flat_map f) (map_more h xs i d l) ∙ flat_map-append f (map h (take i xs)) (h (get_or xs i d) ∷ []) ∙ ap (λ r. flat_map f (map h (take i xs)) ++ r) (append_nil (f (h (get_or xs i d))))
+  flat_map_map_more f h xs i d l = ap (flat_map f) (map_more h xs i d l) ∙ flat_map-append f (map h (take i xs)) (h (get_or xs i d) ∷ []) ∙ ap (λ r. flat_map f (map h (take i xs)) ++ r) (append-nil (f (h (get_or xs i d))))
 
 module _ {X Y : Type 0} where
   pub filter_map_more : (p : Y → Bool) (h : X → Y) (xs : List X) (i : ℕ) (d : X) → i < length xs → filter p (map h (take (i + 1) xs)) ≡ filter p (map h (take i xs)) ++ cond (p (h (get_or xs i d))) (h (get_or xs i d) ∷ []) []

@@ -26,13 +26,13 @@ use Rattle.repl_data.specs.Closed.{all_differ, is_sound, IsClosed, IsIn}
 use Rattle.repl_data.specs.Presence.{is_live, is_child, present_of, StandsIn}
 use Rattle.repl_data.specs.Names.{is_id_part, has_id, shown_rdn}
 use Rattle.repl_data.proofs.Orders.{csn_total, csn_exact, uid_total, uid_exact}
-use Rattle.repl_data.proofs.InOrder.{any-in_order_by, either_true, is_equal}
-use Rattle.repl_data.proofs.Bools.{either_false}
+use Rattle.repl_data.proofs.InOrder.{any-in_order_by, is_equal}
+use Rattle.repl_data.proofs.Bools.{either_false, either_true}
 use Rattle.repl_data.proofs.Loops.{all_append}
 use Rattle.repl_data.proofs.Sound.{not_both, both_true, not_true, not_false, neither, no_faults, sound_order}
 use Rattle.repl_data.proofs.CheckLaws.{any-position}
-use Rattle.repl_data.proofs.ClosedLaws.{less, no_csn_below}
 use Rattle.repl_data.proofs.NamesDiffer.{shown_differ}
+use Rattle.repl_data.proofs.CsnTests.{csn_lt-zero}
 
 -- ---- a sound change gives no name with a part for the id
 
@@ -86,7 +86,7 @@ from_first : (x : Change) (xs : List Change) (u : Uid) (ps : List (Csn × Rdn)) 
 from_first x xs u [] e h = tt
 from_first x xs u (p ∷ ps) e h = (record { by_change = x; stands = inl refl; own = e; at = h.0.0; plain = h.0.1 }, from_first x xs u ps e h.1)
 
-abbrev own_names : List Change → Uid → List (Csn × Rdn)
+abbrev pub own_names : List Change → Uid → List (Csn × Rdn)
 own_names xs u = flat_map (λ (c : Change). names_given c.csn c.body) (of_entry xs u)
 
 own_names-given : (xs : List Change) (u : Uid) → list_all is_sound xs ≡ true → AllByRecursion (IsGiven xs u) (own_names xs u)
@@ -101,13 +101,6 @@ own_names-given (x ∷ xs) u h =
     by rest false first e = rest
 
 -- ---- the name of an entry that was added is given
-
-not_below_zero : (c : Csn) → csn_lt c zero_csn ≡ false
-not_below_zero c = by (csn_lt c zero_csn) refl
-  where
-    by : (b : Bool) → csn_lt c zero_csn ≡ b → csn_lt c zero_csn ≡ false
-    by true e = absurd (no_csn_below c (less _ e))
-    by false e = e
 
 -- an id that was added is the CSN of a change
 added_range : (u : Uid) (xs : List Change) → list_all is_sound xs ≡ true → AllByRecursion (λ (c : Change). IsInRange c.csn) xs → list_any (uid_eq u) (added_ids xs) ≡ true → IsInRange u.csn
@@ -137,19 +130,19 @@ stands_equal {k} d (y ∷ ys) (inr m) e = right (csn_eq k y.csn) (stands_equal d
     right true h = refl
     right false h = h
 
-picked : {X : Type 0} (P : Csn × X → Type 0) (none : X) (x : Csn × X) (xs : List (Csn × X)) → P x → AllByRecursion P xs → P (latest_or (zero_csn, none) (x ∷ xs))
-picked P none x [] h g = subst (λ b. P (if b then (zero_csn, none) else x)) (sym (not_below_zero x.0)) h
+pub picked : {X : Type 0} (P : Csn × X → Type 0) (none : X) (x : Csn × X) (xs : List (Csn × X)) → P x → AllByRecursion P xs → P (latest_or (zero_csn, none) (x ∷ xs))
+picked P none x [] h g = subst (λ b. P (if b then (zero_csn, none) else x)) (sym (csn_lt-zero x.0)) h
 picked P none x (y ∷ ys) h g = by (csn_lt x.0 (latest_or (zero_csn, none) (y ∷ ys)).0) (picked P none y ys g.0 g.1)
   where
     by : (b : Bool) → P (latest_or (zero_csn, none) (y ∷ ys)) → P (if b then latest_or (zero_csn, none) (y ∷ ys) else x)
     by true k = k
     by false k = h
 
-picked_some : {X : Type 0} (P : Csn × X → Type 0) (none : X) (xs : List (Csn × X)) → (xs ≡ [] → ⊥) → AllByRecursion P xs → P (latest_or (zero_csn, none) xs)
+pub picked_some : {X : Type 0} (P : Csn × X → Type 0) (none : X) (xs : List (Csn × X)) → (xs ≡ [] → ⊥) → AllByRecursion P xs → P (latest_or (zero_csn, none) xs)
 picked_some P none [] n h = absurd (n refl)
 picked_some P none (x ∷ xs) n h = picked P none x xs h.0 h.1
 
-not_nothing : {X : Type 0} (x : X) (xs : List X) → x ∷ xs ≡ [] → ⊥
+pub not_nothing : {X : Type 0} (x : X) (xs : List X) → x ∷ xs ≡ [] → ⊥
 not_nothing x xs e = cc
 
 behind_some : {X : Type 0} (ps qs : List X) → (qs ≡ [] → ⊥) → ps ++ qs ≡ [] → ⊥
@@ -157,7 +150,7 @@ behind_some [] qs n e = n e
 behind_some (p ∷ ps) qs n e = not_nothing p (ps ++ qs) e
 
 -- an entry that was added has been given a name
-abbrev names_with : Bool → Change → List Change → Uid → List (Csn × Rdn)
+abbrev pub names_with : Bool → Change → List Change → Uid → List (Csn × Rdn)
 names_with b x xs u = flat_map (λ (c : Change). names_given c.csn c.body) (cond b (x ∷ of_entry xs u) (of_entry xs u))
 
 -- one more change takes no name away
@@ -182,7 +175,7 @@ names_after x xs u (Modify mods) k g rest = more_names (uid_eq x.target u) x xs 
 names_after x xs u (Ren rdn dropped) k g rest = more_names (uid_eq x.target u) x xs u (rest g)
 names_after x xs u Del k g rest = more_names (uid_eq x.target u) x xs u (rest g)
 
-added_named : (xs : List Change) (u : Uid) → list_any (uid_eq u) (added_ids xs) ≡ true → own_names xs u ≡ [] → ⊥
+pub added_named : (xs : List Change) (u : Uid) → list_any (uid_eq u) (added_ids xs) ≡ true → own_names xs u ≡ [] → ⊥
 added_named [] u h e = not_both false h refl
 added_named (x ∷ xs) u h e = names_after x xs u x.body refl h (added_named xs u) e
 

@@ -17,13 +17,10 @@ use Rattle.repl_data.proofs.InOrder.{is_equal}
 use Rattle.std.proofs.lemmas.Cmp.{tied_itself}
 use Rattle.repl_data.proofs.Sound.{not_both, both_true, not_true, neither}
 use Rattle.repl_data.proofs.Bytes.{uid_text-exact}
+use Rattle.repl_data.proofs.Bools.{or_true}
 
 abbrev part : Ava → List ℕ × List ℕ
 part a = (a.attr.name, a.val.key)
-
-either_right : (a : Bool) → (a || true) ≡ true
-either_right true = refl
-either_right false = refl
 
 with_id-any : (u : Uid) (avas : List Ava) → list_any is_id_part (map part (put_by (λ (a : Ava). a.attr.name) bytes_cmp (id_ava u) avas)) ≡ true
 with_id-any u [] = refl
@@ -32,7 +29,7 @@ with_id-any u (a ∷ avas) = by (bytes_cmp (codes "nsuniqueid") a.attr.name) (wi
     by : (o : Ordering) → list_any is_id_part (map part (put_by (λ (a : Ava). a.attr.name) bytes_cmp (id_ava u) avas)) ≡ true → list_any is_id_part (map part (by_order o (id_ava u ∷ a ∷ avas) (id_ava u ∷ avas) (a ∷ put_by (λ (a : Ava). a.attr.name) bytes_cmp (id_ava u) avas))) ≡ true
     by Less g = refl
     by Equal g = refl
-    by Greater g = ap (λ b. is_id_part (part a) || b) g ∙ either_right (is_id_part (part a))
+    by Greater g = ap (λ b. is_id_part (part a) || b) g ∙ or_true (is_id_part (part a))
 
 -- a name with an id shows that id
 with_id-find : (u : Uid) (avas : List Ava) → list_any is_id_part (map part avas) ≡ false → find is_id_part (map part (put_by (λ (a : Ava). a.attr.name) bytes_cmp (id_ava u) avas)) ≡ Some (codes "nsuniqueid", uid_text u)

@@ -86,7 +86,7 @@ falls_reverse : (es : List PresentEntry) → Rising es → Falls (reverse es)
 falls_reverse [] r = tt
 falls_reverse (e ∷ es) r = subst Falls (sym (reverse_onto es e [])) (falls_append e (reverse es) (falls_reverse es r.1) (all_reverse _ es r.0))
 
-differs : (u v : Uid) → uid_cmp u v ≡ Less → uid_eq v u ≡ false
+pub differs : (u v : Uid) → uid_cmp u v ≡ Less → uid_eq v u ≡ false
 differs u v h = ap is_eq (uid_total.antisymm v u) ∙ ap (λ o. is_eq (ordering_reverse o)) h
 
 -- ---- the path among entries
@@ -135,7 +135,7 @@ suffix_among (d ∷ es) f = by (uid_eq d.id suffix_id) refl (suffix_among es f.1
 
 -- ---- the present entries of a view
 
-all_present : (P : EntryFacts → Type 0) (es : List EntryFacts) → AllByRecursion P es → AllByRecursion P (present_of es)
+pub all_present : (P : EntryFacts → Type 0) (es : List EntryFacts) → AllByRecursion P es → AllByRecursion P (present_of es)
 all_present P [] h = tt
 all_present P (e ∷ es) h = by (is_live e || list_any (is_child e.id) (present_of es)) (all_present P es h.1)
   where

@@ -4,9 +4,10 @@ use Rattle.std.specs.Prelude.{Bool, true, false, not, ◌&&◌, ◌||◌, ◌==�
 use Rattle.std.specs.List.{AllByRecursion}
 use Rattle.repl_data.specs.declared.change.Change.{Change}
 use Rattle.repl_data.specs.declared.change.Malformed.{Malformed}
-use Rattle.repl_data.specs.declared.change.Malformed.TheVariants.{Rid, Sub, Order}
-use Rattle.repl_data.specs.Check.{fault_if, first_fault, faults_of_frame, faults_of_body, is_out_of_order}
+use Rattle.repl_data.specs.declared.change.Malformed.TheVariants.{Rid, Sub, Order, Root}
+use Rattle.repl_data.specs.Check.{fault_if, first_fault, faults_of_frame, faults_of_body, is_out_of_order, is_of_root}
 use Rattle.repl_data.specs.Closed.{is_sound}
+use Rattle.repl_data.proofs.Bools.{either_first}
 
 pub not_both : (b : Bool) → b ≡ true → b ≡ false → ⊥
 not_both b h g = let e : true ≡ false = sym h ∙ g in cc
@@ -43,10 +44,9 @@ sound_sub c h = eqb-true c.csn.sub 0 (not_false (c.csn.sub == 0) (no_fault (not 
 pub sound_order : (c : Change) → is_sound c ≡ true → is_out_of_order c.csn c.target c.body ≡ false
 sound_order c h = no_fault (is_out_of_order c.csn c.target c.body) Order (no_faults (faults_of_frame c ++ faults_of_body c.body) h).1.1.0
 
+pub sound_root : (c : Change) → is_sound c ≡ true → is_of_root c.target c.body ≡ false
+sound_root c h = no_fault (is_of_root c.target c.body) Root (no_faults (faults_of_frame c ++ faults_of_body c.body) h).1.1.1.0
+
 -- a sound change's stamps are above zero
 pub sound_rid : (c : Change) → is_sound c ≡ true → c.csn.rid ≡ 0 → ⊥
-sound_rid c h e = not_both ((c.csn.rid == 0) || (c.csn.rid == 65535)) (either (c.csn.rid == 0) (c.csn.rid == 65535) (eq-eqb c.csn.rid 0 e)) (no_fault ((c.csn.rid == 0) || (c.csn.rid == 65535)) Rid (no_faults (faults_of_frame c ++ faults_of_body c.body) h).0)
-  where
-    either : (a b : Bool) → a ≡ true → (a || b) ≡ true
-    either true b g = refl
-    either false b g = absurd (not_both false g refl)
+sound_rid c h e = not_both ((c.csn.rid == 0) || (c.csn.rid == 65535)) (either_first (c.csn.rid == 0) (c.csn.rid == 65535) (eq-eqb c.csn.rid 0 e)) (no_fault ((c.csn.rid == 0) || (c.csn.rid == 65535)) Rid (no_faults (faults_of_frame c ++ faults_of_body c.body) h).0)

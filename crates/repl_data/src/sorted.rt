@@ -7,7 +7,7 @@ ghost use Rattle.std.specs.Ordering.{is_lt};
 ghost use Rattle.repl_data.specs.Order.{bytes_cmp, bytes_eq, put_by};
 ghost use Rattle.repl_data.specs.Ordered.{Rises, IsAt, IsGap};
 
-use crate::change::{Attr, Ava, Val};
+use crate::change::{Attr, Ava, Shown, Val};
 use crate::items::{Bytes, Items, NoMemory};
 use crate::truth::same_bytes;
 
@@ -29,6 +29,14 @@ impl Keyed for Val {
 
 impl Keyed for Attr {
     ghost key_of = { λ a. a.attr.name };
+
+    fn key(&self) -> &[u8] {
+        self.attr.name.as_slice()
+    }
+}
+
+impl Keyed for Shown {
+    ghost key_of = { λ s. s.attr.name };
 
     fn key(&self) -> &[u8] {
         self.attr.name.as_slice()

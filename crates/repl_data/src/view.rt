@@ -4,7 +4,7 @@ ghost use Rattle.std.specs.Prelude.{◌≡◌, IfOk};
 ghost use Rattle.std.specs.Option.{option_copied};
 ghost use Rattle.repl_data.specs.Order.{suffix_id};
 ghost use Rattle.repl_data.specs.View.{DirectoryView, child_of, children_of, entry_of, tombstones_of, tombstone_of, name_of, parent_of};
-ghost use Rattle.repl_data.specs.Lent.{own_of, standing_of};
+ghost use Rattle.repl_data.specs.Lent.{own_of, standing_of, tombstone_own_of, tombstone_parent_of};
 
 use crate::change::{Rdn, Shown, ShownEntry};
 use crate::csn::{Uid, UidList};
@@ -69,4 +69,13 @@ pub trait View {
     /// Whether a present entry is glue, and whether it lost its name.
     fn standing(&self, id: Uid) -> Option<Standing>
         ensures { result ≡ standing_of (view self.now) id };
+
+    /// The user attributes that a tombstone shows, in order of name, as the view keeps them: no copy is made. The
+    /// attributes and the class that a view derives are not among them.
+    fn tombstone_own(&self, id: Uid) -> Option<&[Shown]>
+        ensures { option_copied result ≡ tombstone_own_of (view self.now) id };
+
+    /// The parent that a tombstone had.
+    fn tombstone_parent(&self, id: Uid) -> Option<Uid>
+        ensures { result ≡ tombstone_parent_of (view self.now) id };
 }

@@ -1,12 +1,11 @@
 -- The CSNs of a vector one after the other, as a loop reads them.
 use Rattle.std.proofs.Common.{◌≡◌, ℕ, zero, suc, ◌-◌, ◌+◌, ◌≤◌, ◌<◌, false, eqb, List, [], ◌∷◌, ◌++◌, Result, Ok, Err, refl, sym, ap, ◌∙◌, append_assoc, arith, get_or, length}
 use Rattle.std.proofs.lemmas.List.{append-nil}
-use Rattle.std.proofs.lemmas.Bool.Decides.{nat_tests}
 use Rattle.ber_core.specs.declared.fault.ReadFault.{ReadFault}
 use Rattle.ber_core.specs.declared.fault.ReadFault.TheVariants as fault
 use Rattle.ber_core.specs.Cursor.{Fails}
 use Rattle.ber_core.specs.Window.{Stop, Fault, More, Window, ◌>>=◌, element}
-use Rattle.ber_core.proofs.Loops.{with_front}
+use Rattle.ber_core.proofs.Loops.{with_front, not_zero}
 use Rattle.repl_data.specs.declared.csn.Csn.{Csn}
 use Rattle.repl_data.specs.Order.{zero_csn}
 use Rattle.vector_core.specs.Vector.{IsVector, IsRaised}
@@ -25,9 +24,6 @@ at_start read v = record { is_vector = v; low = λ k lt. absurd (omega arith); w
     same : (r : Result (List Csn) Stop) → with_front [] r ≡ r
     same (Ok xs) = refl
     same (Err e) = refl
-
-not_zero : (n : ℕ) → (n ≡ 0 → ⊥) → eqb n 0 ≡ false
-not_zero n never = grind (arith, nat_tests)
 
 regroup : (front : List Csn) (x : Csn) (read : Result (List Csn) Stop) → with_front front (read >>= λ xs. Ok (x ∷ xs)) ≡ with_front (front ++ x ∷ []) read
 regroup front x (Ok xs) = ap (λ (ys : List _). Ok ys) (simp append_assoc)

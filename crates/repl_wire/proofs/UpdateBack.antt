@@ -19,6 +19,7 @@ use Rattle.repl_data.specs.declared.change.Malformed.TheVariants as malformed
 use Rattle.repl_data.specs.Check.{weight, greatest_weight, fault_if, fault_at, either_fault, is_empty, falls_after, parts_of, part_falls, is_out_of_order, is_of_root, has_too_many, empty_places, double_places, derived_places, lacks_name_value, fault_of}
 use Rattle.repl_data.specs.Order.{bytes_cmp}
 use Rattle.repl_data.specs.Text.{IsInRange}
+use Rattle.repl_data.proofs.Sound.{not_false}
 use Rattle.repl_wire.specs.Fault.{in_value}
 use Rattle.repl_wire.specs.Keys.{Every, IsKeyedPart, HasKeys}
 use Rattle.repl_wire.specs.Laws.{IsSoundUpdate}
@@ -73,10 +74,6 @@ not_first : (b : Bool) (n : ℕ) (o : Option ℕ) → cond b (Some n) o ≡ None
 not_first false n o e = (refl, e)
 not_first true n o e = absurd cc
 
-was_true : (b : Bool) → not b ≡ false → b ≡ true
-was_true true e = refl
-was_true false e = absurd cc
-
 abbrev name_key : Ava → List ℕ
 name_key a = a.attr.name
 
@@ -90,7 +87,7 @@ readable_after : (a : Ava) (avas : List Ava) (more : List Bool) (n : ℕ) → po
 readable_after a [] more n e k = (tt, (part a k.0, tt, tt))
 readable_after a (b ∷ avas) more n e k =
     let p = not_first (not (is_lt (bytes_cmp a.attr.name b.attr.name))) n _ e in
-    let up : comes_before a b ≡ true = was_true (is_lt (bytes_cmp a.attr.name b.attr.name)) p.0 in
+    let up : comes_before a b ≡ true = not_false (is_lt (bytes_cmp a.attr.name b.attr.name)) p.0 in
     let r = readable_after b avas more (n + 1) p.1 k.1 in
     let below : IsBelowAll a (b ∷ avas) = (up, below-trans a b avas up r.0) in
     (below, (part a k.0, below, r.1))

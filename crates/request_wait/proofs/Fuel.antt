@@ -77,7 +77,7 @@ same_front : {A : Type 0} (piece : Window → Reading A) (w : Window) (others mo
 same_front piece w others more (Ok x) e h = ap (λ (r : Result (List _) Stop). r >>= λ xs. Ok (x.0 ∷ xs)) (h x e)
 same_front piece w others more (Err s) e h = refl
 
-none_left : (n : ℕ) → n ≤ 0 → eqb n 0 ≡ true
+pub none_left : (n : ℕ) → n ≤ 0 → eqb n 0 ≡ true
 none_left n le = grind (arith, nat_tests)
 
 pub enough : {A : Type 0} (piece : Window → Reading A) → Shrinks piece → (n m : ℕ) (w : Window) → w.left ≤ n → w.left ≤ m → many_from piece n w ≡ many_from piece m w

@@ -1,10 +1,9 @@
 -- Elements with a tag one after the other, as many as stand here.
 use Rattle.std.proofs.Common.{◌≡◌, ℕ, zero, suc, ◌<◌, ◌≤◌, Bool, true, false, cond, eqb, List, [], ◌∷◌, Option, Some, None, Result, Ok, Err, refl, sym, ap, ◌∙◌, arith}
-use Rattle.std.proofs.lemmas.Bool.Decides.{nat_tests}
 use Rattle.std.specs.Prelude.{◌==◌}
 use Rattle.ber_core.specs.Window.{Stop, Window, Reading, ◌>>=◌, tag_here, element, optional, with_first, run_from, run}
 use Rattle.request_wait.proofs.Stays.{same_ok}
-use Rattle.request_wait.proofs.Fuel.{element_shrinks}
+use Rattle.request_wait.proofs.Fuel.{element_shrinks, none_left}
 
 abbrev missing : {A : Type 0} → Window → Reading (Option A)
 missing w = Ok (None, w)
@@ -66,9 +65,6 @@ unfolding optional
 none_stays tag content w v is = none_by_left (eqb w.left 0) _ w v (none_by_tag tag (tag_here w) (element tag content w) w v) is
 
 -- ---- runs
-
-none_left : (n : ℕ) → n ≤ 0 → eqb n 0 ≡ true
-none_left n le = grind (arith, nat_tests)
 
 same_first : {A : Type 0} (tag : ℕ) (content : Window → Result A Stop) (others more : Window → Reading (List A)) (w : Window) (r : Reading (Option A)) → optional tag content w ≡ r → ((x : A) (v : Window) → optional tag content w ≡ found x v → others v ≡ more v)
     → (r >>= with_first others) ≡ (r >>= with_first more)

@@ -1,14 +1,11 @@
 -- Elements one after the other, as a loop reads them.
 use Rattle.std.proofs.Common.{◌≡◌, ℕ, zero, suc, ◌-◌, ◌+◌, ◌≤◌, ◌<◌, false, eqb, List, [], ◌∷◌, ◌++◌, length, Result, Ok, Err, refl, sym, ap, ◌∙◌, append_assoc, arith}
 use Rattle.std.proofs.lemmas.List.{append-nil}
-use Rattle.std.proofs.lemmas.Bool.Decides.{nat_tests}
+use Rattle.ber_core.proofs.Loops.{not_zero}
 use Rattle.row_bytes.specs.declared.fault.RowFault.{RowFault}
 use Rattle.row_bytes.specs.declared.fault.RowFault.TheVariants as fault
 use Rattle.row_bytes.specs.Given.{Fails}
 use Rattle.row_bytes.specs.Place.{Fault, At, Place, Reading, ◌>>=◌, many_from}
-
-not_zero : (n : ℕ) → (n ≡ 0 → ⊥) → eqb n 0 ≡ false
-not_zero n never = grind (arith, nat_tests)
 
 -- what was read before, and what is still read
 abbrev pub with_front : {A : Type 0} → List A → Result (List A) Fault → Result (List A) Fault

@@ -5,6 +5,7 @@ use Rattle.ber_core.specs.Element.{IsElement, shortest_length, element}
 use Rattle.ber_core.proofs.Readers.{same_element}
 use Rattle.ber_core.proofs.Written.{IsElement-element}
 use Rattle.repl_data.specs.declared.change.Change.{Change}
+use Rattle.repl_data.proofs.Loops.{empty_rest}
 use Rattle.row_bytes.specs.Form.{integer, csn_string, body_bytes, row_of, IsChangeInRange}
 use Rattle.row_bytes.specs.Grammar.{row_at}
 use Rattle.row_bytes.specs.Laws.{NoneIsPrefix}
@@ -22,10 +23,6 @@ parts_shorter tag body = omega (arith, length-append (tag ∷ shortest_length (l
 row_element : (c : Change) → IsChangeInRange c → IsElement (row_of c) 0x30 (row_parts c)
 unfolding row_of
 row_element c i = let size = i.size in IsElement-element 0x30 (row_parts c) (is_tag 0x30 refl) (omega (arith, parts_shorter 0x30 (row_parts c)))
-
-empty_rest : (bytes more : List ℕ) → length bytes ≡ length (bytes ++ more) → more ≡ []
-empty_rest bytes [] e = refl
-empty_rest bytes (m ∷ more) e = absurd (omega (arith, length-append bytes (m ∷ more)))
 
 pub one_change : (a b : Change) → IsChangeInRange a → IsChangeInRange b → row_of a ≡ row_of b → a ≡ b
 one_change a b i j e = out a b (sym (row_back a i) ∙ ap row_at e ∙ row_back b j)

@@ -7,12 +7,11 @@ use Rattle.repl_data.specs.declared.change.Val.{Val}
 use Rattle.repl_data.specs.declared.change.Mod.{Mod}
 use Rattle.repl_data.specs.Order.{bytes_eq}
 use Rattle.repl_data.specs.Plain.{values_after}
-use Rattle.repl_data.proofs.KeyPlaces.{is_same}
+use Rattle.repl_data.proofs.KeyPlaces.{is_same, same_turned}
 use Rattle.repl_data.proofs.Sound.{neither}
 use Rattle.attr_keys.specs.Table.{is_single}
 use Rattle.rule_values.specs.Modify.{after}
 use Rattle.rule_values.specs.Written.{Values, is_modified, replaced, write_before, written}
-use Rattle.rule_values.proofs.SetLemmas.{same_turned}
 
 -- one modification, looked at from one attribute
 abbrev effect : List ℕ → List Val → Mod → List Val

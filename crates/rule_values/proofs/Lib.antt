@@ -1,7 +1,10 @@
 pub mod Places
+pub mod Heads
 pub mod Counts
 pub mod InTurn
+pub mod Sorting
 pub mod SetLemmas
 pub mod ModSteps
+pub mod Stepping
 pub mod Effect
 pub mod PlainEffect

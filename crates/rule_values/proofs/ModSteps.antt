@@ -1,5 +1,5 @@
 -- What modifications do to what an entry has, step by step.
-use Rattle.std.proofs.Common.{◌≡◌, ℕ, ◌+◌, ◌<◌, ◌≤◌, Bool, true, false, cond, not, ◌||◌, List, [], ◌∷◌, ◌++◌, length, get_or, drop, refl, sym, ap, subst, ◌∙◌, Option, Some, None, Result, Ok, Err, nat_lt}
+use Rattle.std.proofs.Common.{◌≡◌, ℕ, ◌+◌, ◌<◌, ◌≤◌, Bool, true, false, cond, not, ◌||◌, List, [], ◌∷◌, ◌++◌, length, get_or, drop, refl, sym, ap, subst, ◌∙◌, Option, Some, None, Result, Ok, Err, nat_lt, append-nil}
 use Rattle.std.specs.Prelude.{filter, find, fold, flat_map, is_some}
 use Rattle.std.specs.Option.{option_map_or}
 use Rattle.std.specs.List.{AllByRecursion, list_any}
@@ -20,7 +20,7 @@ use Rattle.repl_data.specs.Order.{bytes_cmp, bytes_eq, by_order}
 use Rattle.repl_data.specs.Ordered.{Rises}
 use Rattle.repl_data.specs.Plain.{add_values, without_values, values_after}
 use Rattle.repl_data.specs.View.{put_attr, vals_at}
-use Rattle.repl_data.proofs.KeyPlaces.{is_same}
+use Rattle.repl_data.proofs.KeyPlaces.{is_same, same_turned}
 use Rattle.repl_data.proofs.Orders.{bytes_exact}
 use Rattle.repl_data.proofs.Sound.{not_both}
 use Rattle.ldap_types.specs.declared.request.RawMod.{RawMod}
@@ -33,7 +33,7 @@ use Rattle.rule_values.specs.Modify.{shown_values, after, read_mod, fits, carrie
 use Rattle.rule_values.specs.Written.{Values, written}
 use Rattle.rule_values.proofs.Places.{equal_key, above_others}
 use Rattle.rule_values.proofs.InTurn.{go_on, stop}
-use Rattle.rule_values.proofs.SetLemmas.{same_turned, is_other}
+use Rattle.rule_values.proofs.SetLemmas.{is_other}
 
 -- ---- an attribute that is put among those that were touched
 
@@ -104,10 +104,6 @@ pub not_found_values : (own : List Shown) (touched : List Attr) (name : List ℕ
 not_found_values own touched name h = ap (λ (o : Option Attr). option_map_or (λ (x : Attr). x.vals) o (shown_values own name)) h
 
 -- in rising attributes the values that stand at a name are those of the one that is found
-append_nil : {X : Type 0} (xs : List X) → xs ++ [] ≡ xs
-append_nil [] = refl
-append_nil (x ∷ xs) = ap (λ r. x ∷ r) (append_nil xs)
-
 pub vals_found : (own : List Shown) (name : List ℕ) (touched : List Attr) → Rises attr_name touched → is_some (found name touched) ≡ true → vals_at name touched ≡ held own touched name
 vals_found own name [] r h = absurd (not_both false h refl)
 vals_found own name (a ∷ touched) r h = by (bytes_eq name a.attr.name) refl (vals_found own name touched r.1)
@@ -116,7 +112,7 @@ vals_found own name (a ∷ touched) r h = by (bytes_eq name a.attr.name) refl (v
     by true e more =
         let same : name ≡ a.attr.name = is_same name a.attr.name e in
         let none : vals_at name touched ≡ [] = above_others name touched (subst (λ (k : List ℕ). AllByRecursion (λ (z : Attr). bytes_cmp k z.attr.name ≡ Less) touched) (sym same) r.0) in
-        ap (λ t. cond t a.vals [] ++ vals_at name touched) (same_turned a.attr.name name ∙ e) ∙ ap (λ w. a.vals ++ w) none ∙ append_nil a.vals
+        ap (λ t. cond t a.vals [] ++ vals_at name touched) (same_turned a.attr.name name ∙ e) ∙ ap (λ w. a.vals ++ w) none ∙ append-nil a.vals
         ∙ ap (λ (o : Option Attr). option_map_or (λ (x : Attr). x.vals) o (shown_values own name)) (sym (find_step name a touched true e))
     by false e more =
         let p : found name (a ∷ touched) ≡ found name touched = find_step name a touched false e in

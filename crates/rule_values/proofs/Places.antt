@@ -1,5 +1,5 @@
 -- What the place of a name among attributes says of a look-up.
-use Rattle.std.proofs.Common.{◌≡◌, ℕ, zero, suc, ◌++◌, List, [], ◌∷◌, refl, sym, ap, subst, ◌∙◌, true, false, cond, Some}
+use Rattle.std.proofs.Common.{◌≡◌, ℕ, zero, suc, ◌++◌, List, [], ◌∷◌, refl, sym, ap, subst, ◌∙◌, true, false, cond, Some, append-nil}
 use Rattle.std.specs.Prelude.{slice_get}
 use Rattle.std.specs.List.{AllByRecursion}
 use Rattle.std.specs.declared.cmp.Ordering.{Ordering}
@@ -26,16 +26,12 @@ above_others k [] h = refl
 above_others k (a ∷ attrs) h =
     ap (λ b. cond b a.vals [] ++ vals_at k attrs) (other_key a.attr.name k Greater (above k a.attr.name h.0) refl) ∙ above_others k attrs h.1
 
-append_nil : {X : Type 0} (xs : List X) → xs ++ [] ≡ xs
-append_nil [] = refl
-append_nil (x ∷ xs) = ap (λ r. x ∷ r) (append_nil xs)
-
 pub vals_at_place : (k : List ℕ) (attrs : List Attr) (n : ℕ) (a : Attr) → Rises attr_name attrs → IsAt attr_name k attrs n → slice_get attrs n ≡ Some a → a.vals ≡ vals_at k attrs
 vals_at_place k [] n a r h e = elim h [ ]
 vals_at_place k (b ∷ attrs) zero a r h e =
     let p : b ≡ a = cc in
     let none : vals_at k attrs ≡ [] = above_others k attrs (subst (λ x. AllByRecursion (λ (z : Attr). bytes_cmp x z.attr.name ≡ Less) attrs) h r.0) in
-    ap (λ (x : Attr). x.vals) (sym p) ∙ sym (append_nil b.vals) ∙ ap (λ w. b.vals ++ w) (sym none) ∙ ap (λ t. cond t b.vals [] ++ vals_at k attrs) (sym (equal_key b.attr.name k h))
+    ap (λ (x : Attr). x.vals) (sym p) ∙ sym (append-nil b.vals) ∙ ap (λ w. b.vals ++ w) (sym none) ∙ ap (λ t. cond t b.vals [] ++ vals_at k attrs) (sym (equal_key b.attr.name k h))
 vals_at_place k (b ∷ attrs) (suc n) a r h e =
     vals_at_place k attrs n a r.1 h.1 e ∙ ap (λ t. cond t b.vals [] ++ vals_at k attrs) (sym (other_key b.attr.name k Less h.0 refl))
 

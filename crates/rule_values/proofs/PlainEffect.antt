@@ -1,5 +1,5 @@
 -- What modifications leave is their plain effect.
-use Rattle.std.proofs.Common.{◌≡◌, ℕ, Bool, true, false, cond, not, List, [], ◌∷◌, ◌++◌, map, refl, sym, ap, subst, ◌∙◌}
+use Rattle.std.proofs.Common.{◌≡◌, ℕ, Bool, true, false, cond, not, List, [], ◌∷◌, ◌++◌, map, refl, sym, ap, subst, ◌∙◌, append-nil}
 use Rattle.std.specs.Prelude.{filter, fold}
 use Rattle.std.specs.List.{AllByRecursion}
 use Rattle.std.specs.declared.cmp.Ordering.{Ordering}
@@ -12,18 +12,15 @@ use Rattle.repl_data.specs.Order.{bytes_cmp, bytes_eq, by_order}
 use Rattle.repl_data.specs.Ordered.{Rises}
 use Rattle.repl_data.specs.Plain.{plain_mod, set_values, values_after}
 use Rattle.repl_data.specs.View.{put_attr, user, vals_at}
-use Rattle.repl_data.proofs.KeyPlaces.{is_same, put_rises}
+use Rattle.repl_data.proofs.KeyPlaces.{is_same, put_rises, same_turned}
 use Rattle.repl_data.proofs.Orders.{bytes_total, bytes_exact}
+use Rattle.repl_data.proofs.Loops.{all_filter}
 use Rattle.rule_values.specs.Having.{attr_name, val_key}
 use Rattle.rule_values.specs.Modify.{after, shown_values}
 use Rattle.rule_values.specs.Written.{Values}
 use Rattle.rule_values.proofs.Places.{above_others}
-use Rattle.rule_values.proofs.SetLemmas.{same_turned, puts_rising}
+use Rattle.rule_values.proofs.SetLemmas.{puts_rising}
 use Rattle.rule_values.proofs.ModSteps.{apart, shown_at}
-
-append_nil : {X : Type 0} (xs : List X) → xs ++ [] ≡ xs
-append_nil [] = refl
-append_nil (x ∷ xs) = ap (λ r. x ∷ r) (append_nil xs)
 
 -- ---- the values at a name
 
@@ -31,7 +28,7 @@ at_head : (b : Attr) (attrs : List Attr) (name : List ℕ) (t : Bool) → bytes_
 at_head b attrs name t h = ap (λ x. cond x b.vals [] ++ vals_at name attrs) (same_turned b.attr.name name ∙ h)
 
 alone : (a : Attr) (rest : List Attr) (name : List ℕ) (t : Bool) → bytes_eq name a.attr.name ≡ t → (t ≡ true → vals_at name rest ≡ []) → vals_at name (a ∷ rest) ≡ cond t a.vals (vals_at name rest)
-alone a rest name true h none = at_head a rest name true h ∙ ap (λ w. a.vals ++ w) (none refl) ∙ append_nil a.vals
+alone a rest name true h none = at_head a rest name true h ∙ ap (λ w. a.vals ++ w) (none refl) ∙ append-nil a.vals
 alone a rest name false h none = at_head a rest name false h
 
 abbrev AreAbove : List ℕ → List Attr → Type 0
@@ -105,20 +102,12 @@ set_at : (t : AttrKey) (vals : List Val) (attrs : List Attr) (name : List ℕ) �
 set_at t [] attrs name r = at_without t attrs name
 set_at t (v ∷ vals) attrs name r = at_put (record { attr = t; vals = v ∷ vals }) attrs name r
 
-all_left : (P : Attr → Type 0) (q : Attr → Bool) (attrs : List Attr) → AllByRecursion P attrs → AllByRecursion P (filter q attrs)
-all_left P q [] h = tt
-all_left P q (a ∷ attrs) h = by (q a) (all_left P q attrs h.1)
-  where
-    by : (b : Bool) → AllByRecursion P (filter q attrs) → AllByRecursion P (cond b (a ∷ filter q attrs) (filter q attrs))
-    by true more = (h.0, more)
-    by false more = more
-
 left_rises : (q : Attr → Bool) (attrs : List Attr) → Rises attr_name attrs → Rises attr_name (filter q attrs)
 left_rises q [] r = tt
 left_rises q (a ∷ attrs) r = by (q a) (left_rises q attrs r.1)
   where
     by : (b : Bool) → Rises attr_name (filter q attrs) → Rises attr_name (cond b (a ∷ filter q attrs) (filter q attrs))
-    by true more = (all_left (λ (y : Attr). bytes_cmp a.attr.name y.attr.name ≡ Less) q attrs r.0, more)
+    by true more = (all_filter (λ (y : Attr). bytes_cmp a.attr.name y.attr.name ≡ Less) q attrs r.0, more)
     by false more = more
 
 set_rises : (t : AttrKey) (vals : List Val) (attrs : List Attr) → Rises attr_name attrs → Rises attr_name (set_values t vals attrs)

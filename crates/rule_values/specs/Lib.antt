@@ -5,4 +5,7 @@ pub mod Modify
 pub mod Written
 pub mod Codes
 pub mod Having
+pub mod Entries
 pub mod Sets
+pub mod Heads
+pub mod Sorting

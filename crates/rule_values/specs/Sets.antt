@@ -1,11 +1,16 @@
--- A map from keys to spellings, as a list of values.
-use Rattle.std.specs.Prelude.{ℕ, List, map}
-use Rattle.std.specs.declared.vec.Vec.{Vec}
-use Rattle.std.specs.declared.alloc.Global.{Global}
+-- A set of values: a list in order of key until it is changed, and a map from keys to spellings from then on.
+use Rattle.std.specs.Prelude.{List}
 use Rattle.repl_data.specs.declared.change.Val.{Val}
+use Rattle.repl_data.specs.Ordered.{Rises}
+use Rattle.rule_values.specs.Having.{val_key}
+use Rattle.rule_values.specs.declared.val_set.Kept.{Kept}
+use Rattle.rule_values.specs.declared.val_set.Kept.TheVariants as kept
+use Rattle.rule_values.specs.Entries.{vals_of}
 
-abbrev pub val_of : Vec ℕ Global × List ℕ → Val
-val_of e = record { key = e.0.items; spelled = e.1 }
+abbrev pub vals_in : Kept → List Val
+vals_in (kept.Rising vals) = vals
+vals_in (kept.Tree tree) = vals_of tree.entries
 
-abbrev pub vals_of : List (Vec ℕ Global × List ℕ) → List Val
-vals_of es = map val_of es
+abbrev pub IsKept : Kept → Type 0
+IsKept (kept.Rising vals) = Rises val_key vals
+IsKept (kept.Tree tree) = Unit {0}

@@ -2,6 +2,7 @@
 
 ghost use Rattle.std.specs.Prelude.{◌≡◌, ◌&&◌, ◌∷◌, [], List, IfOk};
 ghost use Rattle.std.specs.List.{list_any};
+ghost use Rattle.repl_data.specs.declared.change.Attr.{Attr};
 ghost use Rattle.repl_data.specs.Check.{has_value, is_empty};
 ghost use Rattle.repl_data.specs.Order.{bytes_eq};
 ghost use Rattle.repl_data.specs.Ordered.{Rises};
@@ -12,7 +13,10 @@ ghost use Rattle.rule_values.specs.Listed.{has_key, put_new, value_beside, value
 use crate::case::refuse_if;
 use crate::counting::has_too_many;
 use crate::fault::{Refusal, ValueFault};
+use crate::head_key::HeadKey;
+use crate::headed::copy_key;
 use crate::reading::{read_name, read_value};
+use crate::sorted::sorted_values;
 use crate::table::{HeldAttr, Table, put_attribute, take_values, to_attributes};
 use crate::val_set::ValSet;
 use ldap_types::RawAttr;
@@ -24,11 +28,10 @@ use std::alloc::Global;
 
 /// Puts a value beside others, none of which may have its key.
 #[tactic(auto, unfolding(crate::specs::Listed::value_beside))]
-fn put_new(before: ValSet, val: Val) -> Result<ValSet, ValueFault>
+fn put_new(alloc: Global, before: ValSet, val: Val) -> Result<ValSet, ValueFault>
     ensures { Gives result (put_new val before) }
 {
-    let mut vals = before;
-    let was = vals.put(val)?;
+    let (vals, was) = before.with(alloc, val)?;
     refuse_if(was, Refusal::ListedTwice)?;
     Ok(vals)
 }
@@ -45,11 +48,11 @@ fn value_beside(
 {
     let val = read_value(alloc, attr, spelled)?;
     refuse_if(is_derived_value(attr, &val), Refusal::Derived)?;
-    put_new(before, val)
+    put_new(alloc, before, val)
 }
 
 /// The values given, beside those of their attribute that came before.
-pub(crate) fn values_beside(
+fn values_beside(
     alloc: Global,
     attr: &AttrKey,
     before: ValSet,
@@ -62,6 +65,22 @@ pub(crate) fn values_beside(
         vals = value_beside(alloc, attr, vals, spelled.as_slice())?;
     }
     Ok(vals)
+}
+
+/// The same. Where none came before, they are sorted once.
+fn values_with(
+    alloc: Global,
+    attr: &AttrKey,
+    before: ValSet,
+    given: &[Bytes],
+) -> Result<ValSet, ValueFault>
+    ensures { Gives result (values_beside attr.now before given.now) }
+{
+    if before.is_empty() {
+        let vals = sorted_values(alloc, attr, given)?;
+        return Ok(ValSet::of(vals));
+    }
+    values_beside(alloc, attr, before, given)
 }
 
 pub(crate) fn has_no_value(vals: &[Bytes]) -> bool
@@ -85,7 +104,7 @@ fn attribute_beside(alloc: Global, before: Table, given: &RawAttr) -> Result<Tab
     refuse_if(has_no_value(given.vals.as_slice()), Refusal::NoValue)?;
     let mut attrs = before;
     let own = take_values(alloc, &mut attrs, &attr);
-    let vals = values_beside(alloc, &attr, own, given.vals.as_slice())?;
+    let vals = values_with(alloc, &attr, own, given.vals.as_slice())?;
     put_attribute(&mut attrs, attr, vals)?;
     Ok(attrs)
 }
@@ -102,17 +121,23 @@ fn attributes(alloc: Global, given: &[RawAttr]) -> Result<Table, ValueFault>
     Ok(attrs)
 }
 
-fn is_value_of(attr: &HeldAttr, ava: &Ava) -> bool
-    ensures { result ≡ (bytes_eq attr.now.attr.name ava.now.attr.name && has_key ava.now.val.key attr.now.vals) }
+fn is_value_of(attr: &HeldAttr, name: &[u8], key: &HeadKey) -> bool
+    ensures { result ≡ (bytes_eq attr.now.attr.name name.now && has_key key.now attr.now.vals) }
 {
-    same_bytes(attr.attr.name.as_slice(), ava.attr.name.as_slice())
-        && attr.vals.has(ava.val.key.as_slice())
+    same_bytes(attr.attr.name.as_slice(), name) && attr.vals.has(key)
 }
 
-fn has_value(attrs: &[HeldAttr], ava: &Ava) -> bool
-    ensures { result ≡ has_value attrs.now ava.now }
+fn any_has(attrs: &[HeldAttr], name: &[u8], key: &HeadKey) -> bool
+    ensures { result ≡ list_any (λ (a : Attr). bytes_eq a.attr.name name.now && has_key key.now a.vals) attrs.now }
 {
-    attrs.iter().any(|attr| is_value_of(attr, ava))
+    attrs.iter().any(|attr| is_value_of(attr, name, key))
+}
+
+fn has_value(attrs: &[HeldAttr], ava: &Ava) -> Result<bool, NoMemory>
+    ensures { IfOk result (λ has. has ≡ has_value attrs.now ava.now) }
+{
+    let key = copy_key(&ava.val)?;
+    Ok(any_has(attrs, ava.attr.name.as_slice(), &key))
 }
 
 fn copy(ava: &Ava) -> Result<Ava, NoMemory>
@@ -128,13 +153,14 @@ fn with_part(alloc: Global, before: Table, ava: &Ava) -> Result<Table, NoMemory>
     ensures value { IfOk result (λ attrs. attrs ≡ with_part before ava.now) }
     ensures ordered { IfOk result (Rises attr_name) }
 {
-    if has_value(before.as_slice(), ava) {
+    let has = has_value(before.as_slice(), ava)?;
+    if has {
         return Ok(before);
     }
     let mut attrs = before;
     let Ava { attr, val } = copy(ava)?;
-    let mut vals = take_values(alloc, &mut attrs, &attr);
-    vals.put(val)?;
+    let own = take_values(alloc, &mut attrs, &attr);
+    let (vals, _was) = own.with(alloc, val)?;
     put_attribute(&mut attrs, attr, vals)?;
     Ok(attrs)
 }

@@ -9,6 +9,7 @@ ghost use Rattle.rule_values.specs.Modify.{has_second, has_part, lacks_class, en
 
 use crate::case::refuse_if;
 use crate::fault::{Refusal, ValueFault};
+use crate::headed::copy_key;
 use crate::held::{count_held, is_held, is_without};
 use crate::table::Table;
 use repl_data::{Ava, Mod, NoMemory, Rdn, Shown, is_single};
@@ -18,8 +19,8 @@ fn has_part(alloc: Global, own: &[Shown], touched: &Table, ava: &Ava) -> Result<
     requires { Rises attr_name touched.now }
     ensures { IfOk result (λ has. has ≡ has_part (held own.now touched.now) ava.now) }
 {
-    let name = ava.attr.name.as_slice();
-    is_held(alloc, own, touched, name, ava.val.key.as_slice())
+    let key = copy_key(&ava.val)?;
+    is_held(alloc, own, touched, ava.attr.name.as_slice(), &key)
 }
 
 /// Whether the entry has the values of its name.

@@ -16,17 +16,18 @@ ghost use Rattle.rule_values.specs.Having.{attr_name, held};
 ghost use Rattle.rule_values.specs.Listed.{has_key};
 ghost use Rattle.rule_values.specs.Modify.{shown_values};
 
+use crate::head_key::HeadKey;
 use crate::table::{HeldAttr, Table, take_values};
-use crate::val_set::{ValSet, with_all};
+use crate::val_set::{ValSet, with_copies};
 use repl_data::{AttrKey, NoMemory, Shown, ValList, found_by_key, same_bytes};
 use std::alloc::Global;
 
 /// The values with those of an attribute that is shown, if it has this name.
-fn with_shown(before: ValSet, shown: &Shown, name: &[u8]) -> Result<ValSet, NoMemory>
+fn with_shown(alloc: Global, before: ValSet, shown: &Shown, name: &[u8]) -> Result<ValSet, NoMemory>
     ensures { IfOk result (λ vals. vals ≡ add_values (if bytes_eq shown.now.attr.name name.now then shown.now.vals else []) before) }
 {
     if same_bytes(shown.attr.name.as_slice(), name) {
-        with_all(before, shown.vals.as_slice())
+        with_copies(alloc, before, &shown.vals)
     } else {
         Ok(before)
     }
@@ -38,7 +39,7 @@ pub(crate) fn shown_values(alloc: Global, own: &[Shown], name: &[u8]) -> Result<
 {
     let mut vals = ValSet::new(alloc);
     for shown in own {
-        vals = with_shown(vals, shown, name)?;
+        vals = with_shown(alloc, vals, shown, name)?;
     }
     Ok(vals)
 }
@@ -95,7 +96,7 @@ pub(crate) fn is_held(
     own: &[Shown],
     touched: &Table,
     name: &[u8],
-    key: &[u8],
+    key: &HeadKey,
 ) -> Result<bool, NoMemory>
     requires { Rises attr_name touched.now }
     ensures { IfOk result (λ is. is ≡ has_key key.now (held own.now touched.now name.now)) }

@@ -86,11 +86,11 @@ fn has_too_many(given: &[RawMod]) -> bool
 /// that is gone, a single-valued type with two values, no class.
 ///
 /// An attribute that is modified is copied once, and so are the naming attributes and the classes: that takes the
-/// size of these, times its logarithm. n values of all modifications then cost n times the logarithm of what is
-/// there, in whatever order they come and however they are spread over the modifications: 1,000 modifications of
-/// one value of an attribute with 100,000 values are 100,000 values copied into a tree and 1,000 steps in it. What
-/// is not named is not looked at, but for one comparison of names for each attribute of the entry and each attribute
-/// that is modified.
+/// size of these, times its logarithm where values are put or taken. The values of each modification are sorted once.
+/// n values of all modifications then cost n times the logarithm of what is there, in whatever order they come and
+/// however they are spread over the modifications: 1,000 modifications of one value of an attribute with 100,000
+/// values are 100,000 values copied into a tree and 1,000 steps in it. What is not named is not looked at, but for
+/// one comparison of names for each attribute of the entry and each attribute that is modified.
 #[tactic(auto, unfolding(crate::specs::Modify::modifications))]
 pub fn modifications(
     alloc: Global,

@@ -8,11 +8,11 @@ ghost use Rattle.rule_values.specs.Having.{val_key};
 ghost use Rattle.rule_values.specs.Refusing.{Gives};
 ghost use Rattle.rule_values.specs.Modify.{kind_of, read_mod};
 
-use crate::attributes::{has_no_value, values_beside};
+use crate::attributes::has_no_value;
 use crate::case::refuse_if;
 use crate::fault::{Refusal, ValueFault};
 use crate::reading::read_name;
-use crate::val_set::ValSet;
+use crate::sorted::sorted_values;
 use ldap_types::RawMod;
 use repl_data::{Mod, ModKind, is_derived_attribute};
 use std::alloc::Global;
@@ -59,8 +59,6 @@ pub(crate) fn read_mod(alloc: Global, given: &RawMod) -> Result<Mod, ValueFault>
     let attr = read_name(alloc, given.name.as_slice())?;
     refuse_if(is_derived_attribute(&attr), Refusal::Derived)?;
     refuse_if(lacks_values(kind, given), Refusal::NoValue)?;
-    let none = ValSet::new(alloc);
-    let read = values_beside(alloc, &attr, none, given.vals.as_slice())?;
-    let vals = read.into_list(alloc)?;
+    let vals = sorted_values(alloc, &attr, given.vals.as_slice())?;
     Ok(Mod { kind, attr, vals })
 }

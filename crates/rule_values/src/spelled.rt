@@ -8,14 +8,15 @@ ghost use Rattle.repl_data.specs.Ordered.{Rises};
 ghost use Rattle.repl_data.specs.View.{put_val};
 ghost use Rattle.rule_values.specs.Having.{val_key};
 ghost use Rattle.rule_values.specs.Listed.{has_key};
-ghost use Rattle.rule_values.specs.Sets.{vals_of};
+ghost use Rattle.rule_values.specs.Entries.{vals_of};
 
+use crate::head_key::HeadKey;
 use repl_data::{Bytes, NoMemory, Val, ValList};
 use std::alloc::Global;
 use std::collections::BTreeMap;
 
 /// How each value is spelled, by its key.
-pub(crate) type Spelled = BTreeMap<Vec<u8>, Bytes>;
+pub(crate) type Spelled = BTreeMap<HeadKey, Bytes>;
 
 /// How many values there are.
 pub(crate) fn count(spelled: &Spelled) -> usize
@@ -30,7 +31,7 @@ pub(crate) fn is_empty(spelled: &Spelled) -> bool
     spelled.len() == 0
 }
 
-pub(crate) fn has(spelled: &Spelled, key: &[u8]) -> bool
+pub(crate) fn has(spelled: &Spelled, key: &HeadKey) -> bool
     ensures { result ≡ has_key key.now (vals_of spelled.now.entries) }
 {
     spelled.contains_key(key)
@@ -42,16 +43,18 @@ pub(crate) fn put(spelled: &mut Spelled, val: Val) -> Result<bool, NoMemory>
     ensures was { IfOk result (λ was. was ≡ has_key val.key (vals_of spelled.old.entries)) }
 {
     let Val { key, spelled: text } = val;
-    let old = spelled.insert(key.into_vec(), text)?;
+    let old = spelled.insert(HeadKey::of(key), text)?;
     Ok(old.is_some())
 }
 
-/// Takes out the value of this key.
-pub(crate) fn take(spelled: &mut Spelled, key: &[u8])
-    ensures { vals_of spelled.new.entries ≡ filter (λ (v : Val). not (bytes_eq v.key key.now)) (vals_of spelled.old.entries) }
+/// Takes out the value of this key, and answers whether there was one. One look-up.
+pub(crate) fn take(spelled: &mut Spelled, key: &HeadKey) -> bool
+    ensures take { vals_of spelled.new.entries ≡ filter (λ (v : Val). not (bytes_eq v.key key.now)) (vals_of spelled.old.entries) }
+    ensures was { result ≡ has_key key.now (vals_of spelled.old.entries) }
 {
     let _count = spelled.len();
-    spelled.remove(key);
+    let old = spelled.remove(key);
+    old.is_some()
 }
 
 /// The values in order of key, which move.
@@ -61,15 +64,15 @@ pub(crate) fn into_list(alloc: Global, spelled: Spelled) -> Result<ValList, NoMe
 {
     let _count = spelled.len();
     let mut vals = ValList::new(alloc);
-    for (bytes, text) in spelled {
-        let key = Bytes::from_vec(bytes);
+    for (whole, text) in spelled {
+        let key = whole.into_key();
         vals.push(Val { key, spelled: text })?;
     }
     Ok(vals)
 }
 
-fn copy_value(alloc: Global, key: &Vec<u8>, text: &Bytes) -> Result<Val, NoMemory>
-    ensures { IfOk result (λ (v : Val). v ≡ record { key = key.now.items; spelled = text.now }) }
+fn copy_value(alloc: Global, key: &HeadKey, text: &Bytes) -> Result<Val, NoMemory>
+    ensures { IfOk result (λ (v : Val). v ≡ record { key = key.now; spelled = text.now }) }
 {
     let key = Bytes::from_slice(alloc, key.as_slice())?;
     let spelled = Bytes::from_slice(alloc, text.as_slice())?;
@@ -81,8 +84,20 @@ pub(crate) fn to_list(alloc: Global, spelled: &Spelled) -> Result<ValList, NoMem
     ensures { IfOk result (λ vals. vals ≡ vals_of spelled.now.entries) }
 {
     let mut vals = ValList::new(alloc);
-    for (bytes, text) in spelled {
-        vals.push(copy_value(alloc, bytes, text)?)?;
+    for (whole, text) in spelled {
+        vals.push(copy_value(alloc, whole, text)?)?;
     }
     Ok(vals)
+}
+
+/// The tree of values in order of key, which move.
+pub(crate) fn from_list(alloc: Global, vals: ValList) -> Result<Spelled, NoMemory>
+    requires { Rises val_key vals }
+    ensures { IfOk result (λ tree. vals_of tree.entries ≡ vals) }
+{
+    let mut tree = BTreeMap::new(alloc);
+    for val in vals.into_vec() {
+        put(&mut tree, val)?;
+    }
+    Ok(tree)
 }

@@ -1,111 +1,133 @@
 //! One modification of the values that an entry has.
 
-ghost use Rattle.std.specs.Prelude.{◌≡◌, [], not, IfOk, OnOk, if◌then◌else◌};
-ghost use Rattle.std.specs.List.{list_any, list_all};
-ghost use Rattle.repl_data.specs.declared.change.Mod.{Mod};
-ghost use Rattle.repl_data.specs.declared.change.Val.{Val};
-ghost use Rattle.repl_data.specs.declared.change.ModKind.TheVariants.{Delete};
+ghost use Rattle.std.specs.Prelude.{◌≡◌, true, [], IfOk, OnOk};
+ghost use Rattle.repl_data.specs.declared.change.ModKind.TheVariants.{Add, Delete, Replace};
 ghost use Rattle.repl_data.specs.Check.{is_empty};
 ghost use Rattle.repl_data.specs.Ordered.{Rises};
-ghost use Rattle.repl_data.specs.Plain.{values_after, without_values};
-ghost use Rattle.rule_values.specs.Having.{attr_name, val_key, held};
-ghost use Rattle.rule_values.specs.Listed.{has_key};
+ghost use Rattle.rule_values.specs.Having.{attr_name, val_key, held, changed, with_new, without_one, left_of};
 ghost use Rattle.rule_values.specs.Refusing.{Gives};
 ghost use Rattle.rule_values.specs.Modify.{fits, after};
 
 use crate::case::refuse_if;
 use crate::fault::{Refusal, ValueFault};
+use crate::headed::copy_key;
 use crate::held::take_held;
 use crate::table::{Table, put_attribute};
-use crate::val_set::{ValSet, with_all};
-use repl_data::{AttrKey, Mod, ModKind, NoMemory, Shown, Val};
+use crate::val_set::{ValSet, copy, copy_list};
+use repl_data::{AttrKey, Mod, ModKind, NoMemory, Shown, Val, ValList};
 use std::alloc::Global;
 
-fn any_is_held(vals: &[Val], had: &ValSet) -> bool
-    ensures { result ≡ list_any (λ (v : Val). has_key v.key had.now) vals.now }
-{
-    vals.iter().any(|v| had.has(v.key.as_slice()))
-}
-
-fn all_are_held(vals: &[Val], had: &ValSet) -> bool
-    ensures { result ≡ list_all (λ (v : Val). has_key v.key had.now) vals.now }
-{
-    vals.iter().all(|v| had.has(v.key.as_slice()))
-}
-
-fn is_empty(vals: &[Val]) -> bool
+fn is_empty(vals: &ValList) -> bool
     ensures { result ≡ is_empty vals.now }
 {
-    match vals.first() {
+    match vals.as_slice().first() {
         Some(_) => false,
         None => true,
     }
 }
 
-/// Whether there is not what goes: one of the values, or the attribute where none is named.
-fn is_missing(vals: &[Val], had: &ValSet) -> bool
-    ensures { result ≡ (if is_empty vals.now then is_empty had.now else not (list_all (λ (v : Val). has_key v.key had.now) vals.now)) }
+/// With one value more, which may not be held.
+fn with_new(alloc: Global, had: ValSet, val: &Val) -> Result<ValSet, ValueFault>
+    ensures { Gives result (with_new val.now had) }
 {
-    if is_empty(vals) {
-        had.is_empty()
-    } else {
-        !all_are_held(vals, had)
-    }
+    let (vals, was) = had.with(alloc, copy(val)?)?;
+    refuse_if(was, Refusal::HeldAlready)?;
+    Ok(vals)
 }
 
-/// Whether a modification fits what the entry has of its attribute.
-fn fits(m: &Mod, had: &ValSet) -> Result<(), ValueFault>
-    ensures { Gives result (fits m.now.kind m.now.vals had.now) }
+/// The values with those that are added, one after the other.
+fn added(alloc: Global, vals: &[Val], had: ValSet) -> Result<ValSet, ValueFault>
+    requires { Rises val_key vals.now }
+    ensures { Gives result (changed Add vals.now had) }
 {
-    match m.kind {
-        ModKind::Add => refuse_if(any_is_held(m.vals.as_slice(), had), Refusal::HeldAlready),
-        ModKind::Delete => refuse_if(is_missing(m.vals.as_slice(), had), Refusal::NotHeld),
-        ModKind::Replace => Ok(()),
+    let mut all = had;
+    for val in vals {
+        all = with_new(alloc, all, val)?;
     }
+    Ok(all)
 }
 
-/// The values without those of the same keys.
-fn without(vals: &[Val], had: ValSet) -> ValSet
-    ensures { result ≡ without_values vals.now had }
+/// Values that there were not.
+fn replaced(vals: &ValList) -> Result<ValSet, NoMemory>
+    requires { Rises val_key vals.now }
+    ensures { IfOk result (λ all. all ≡ vals.now) }
+{
+    let copy = copy_list(vals)?;
+    Ok(ValSet::of(copy))
+}
+
+/// The values after an add: where there was none, they are copied as they are.
+fn after_add(alloc: Global, vals: &ValList, had: ValSet) -> Result<ValSet, ValueFault>
+    requires { Rises val_key vals.now }
+    ensures { Gives result (changed Add vals.now had) }
+{
+    if had.is_empty() {
+        let all = replaced(vals)?;
+        return Ok(all);
+    }
+    added(alloc, vals.as_slice(), had)
+}
+
+/// Without one value, which must be held.
+fn without_one(alloc: Global, had: ValSet, val: &Val) -> Result<ValSet, ValueFault>
+    ensures { Gives result (without_one val.now had) }
+{
+    let key = copy_key(val)?;
+    let (vals, was) = had.without(alloc, &key)?;
+    refuse_if(!was, Refusal::NotHeld)?;
+    Ok(vals)
+}
+
+/// The values without those that go, one after the other.
+fn deleted(alloc: Global, vals: &[Val], had: ValSet) -> Result<ValSet, ValueFault>
+    requires { Rises val_key vals.now }
+    ensures { Gives result (left_of vals.now had) }
 {
     let mut left = had;
     for val in vals {
-        left.take(val.key.as_slice());
+        left = without_one(alloc, left, val)?;
     }
-    left
+    Ok(left)
 }
 
-/// No value, in place of those that there were.
-fn cleared(alloc: Global, _had: ValSet) -> ValSet
-    ensures { result ≡ [] }
+/// No value is left of those that there were.
+#[tactic(auto, unfolding(crate::specs::Having::changed))]
+fn cleared(alloc: Global, had: &ValSet) -> Result<ValSet, ValueFault>
+    ensures { Gives result (changed Delete [] had.now) }
 {
-    ValSet::new(alloc)
+    refuse_if(had.is_empty(), Refusal::NotHeld)?;
+    Ok(ValSet::new(alloc))
 }
 
-/// The values without those that go, or none where none of them is named.
-fn deleted(alloc: Global, vals: &[Val], had: ValSet) -> ValSet
-    ensures { result ≡ values_after Delete vals.now had }
+/// The values after a delete of some, or of all where none is named.
+fn after_delete(alloc: Global, vals: &ValList, had: ValSet) -> Result<ValSet, ValueFault>
+    requires { Rises val_key vals.now }
+    ensures { Gives result (changed Delete vals.now had) }
 {
     if is_empty(vals) {
-        cleared(alloc, had)
+        cleared(alloc, &had)
     } else {
-        without(vals, had)
+        deleted(alloc, vals.as_slice(), had)
     }
 }
 
-/// The values after a modification.
-fn values_after(alloc: Global, m: &Mod, had: ValSet) -> Result<ValSet, NoMemory>
+/// The values after a modification that fits.
+#[tactic(auto, unfolding(crate::specs::Having::changed))]
+fn changed(alloc: Global, m: &Mod, had: ValSet) -> Result<ValSet, ValueFault>
     requires { Rises val_key m.now.vals }
-    ensures { IfOk result (λ vals. vals ≡ values_after m.now.kind m.now.vals had) }
+    ensures { Gives result (changed m.now.kind m.now.vals had) }
 {
     match m.kind {
-        ModKind::Add => with_all(had, m.vals.as_slice()),
-        ModKind::Delete => Ok(deleted(alloc, m.vals.as_slice(), had)),
-        ModKind::Replace => with_all(cleared(alloc, had), m.vals.as_slice()),
+        ModKind::Add => after_add(alloc, &m.vals, had),
+        ModKind::Delete => after_delete(alloc, &m.vals, had),
+        ModKind::Replace => {
+            let all = replaced(&m.vals)?;
+            Ok(all)
+        }
     }
 }
 
-fn copy(attr: &AttrKey) -> Result<AttrKey, NoMemory>
+fn copy_attr(attr: &AttrKey) -> Result<AttrKey, NoMemory>
     ensures { IfOk result (λ copy. copy ≡ attr.now) }
 {
     let copy = attr.clone()?;
@@ -126,8 +148,7 @@ pub(crate) fn carry(
     ensures ordered { OnOk result (Rises attr_name touched.new) }
 {
     let had = take_held(alloc, own, touched, &m.attr)?;
-    fits(m, &had)?;
-    let vals = values_after(alloc, m, had)?;
-    put_attribute(touched, copy(&m.attr)?, vals)?;
+    let vals = changed(alloc, m, had)?;
+    put_attribute(touched, copy_attr(&m.attr)?, vals)?;
     Ok(())
 }

@@ -15,10 +15,7 @@ use Rattle.script_text.specs.declared.line.Line.TheVariants.{Nothing, Nodes, Clo
 use Rattle.script_text.specs.Words.{words_of, bytes_of, number_in}
 use Rattle.script_text.specs.Line.{line_of, line_by_words, plain_line, ticket_line, session_line, clock_line, connect_line, input_line, start_line, deliver_line, fail_line, node_of, connection_of, ticket_of, one_node, two_nodes, one_ticket}
 use Rattle.script_text.specs.Spelling.{IsFromTo, IsNode, IsTicket, IsInRange, SpellsBytes, SpellsBytesOf, SpellsWith, line_words, Spells}
-use Rattle.script_text.proofs.Numerals.{ReadNumber, number_in-some}
-
-some-same : {A : Type 0} (x y : A) → Some x ≡ Some y → x ≡ y
-some-same x y e = cc
+use Rattle.script_text.proofs.Numerals.{ReadNumber, number_in-some, some-same}
 
 record Mapped {A B : Type 0} (f : A → B) (o : Option A) (y : B) : Type 0 where
   x : A

@@ -15,7 +15,7 @@ value_on n ds = fold (λ value d. 10 * value + (d - 48)) n ds
 own : IsNumeralModel (λ ds. list_all is_digit ds ≡ true) (value_on 0)
 own = numerals_by_fold _ (search rules) value_on (search rules)
 
-some-same : {A : Type 0} (x y : A) → Some x ≡ Some y → x ≡ y
+pub some-same : {A : Type 0} (x y : A) → Some x ≡ Some y → x ≡ y
 some-same x y e = cc
 
 -- ---- from a number to its digits

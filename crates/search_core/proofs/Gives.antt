@@ -1,13 +1,12 @@
 -- What one entry gives: nothing, or itself.
 use Rattle.std.proofs.Common.{◌≡◌, ℕ, Bool, true, false, ◌&&◌, cond, List, [], ◌∷◌, ◌++◌, Option, Some, None, refl, sym, ap, subst, ◌∙◌, append-nil}
-use Rattle.std.specs.Prelude.{filter, codes, is_none, Result, Ok, Err, IfOk}
+use Rattle.std.specs.Prelude.{codes, is_none, Result, Ok, Err, IfOk}
 use Rattle.std.specs.Option.{option_to_list}
 use Rattle.repl_data.specs.declared.items.NoMemory.{NoMemory}
 use Rattle.repl_data.specs.declared.csn.Uid.{Uid}
 use Rattle.repl_data.specs.declared.change.ShownEntry.{ShownEntry}
 use Rattle.repl_data.specs.Order.{bytes_eq}
-use Rattle.repl_data.specs.Text.{uid_text}
-use Rattle.repl_data.specs.View.{DirectoryView, entry_of, tombstone_of}
+use Rattle.repl_data.specs.View.{DirectoryView, entry_of}
 use Rattle.repl_data.proofs.KeyPlaces.{is_same}
 use Rattle.attr_keys.specs.declared.kind.Kind.{Kind}
 use Rattle.attr_keys.specs.declared.kind.Kind.TheVariants.{Dir}
@@ -21,10 +20,9 @@ use Rattle.ldap_types.specs.declared.request.Filter.{Filter}
 use Rattle.filter_truth.specs.Truth.{attr_of, value_of}
 use Rattle.search_core.specs.declared.found.Hits.{Hits}
 use Rattle.search_core.specs.Tombstones.{is_some_of}
-use Rattle.search_core.specs.Hits.{is_meant, is_match}
+use Rattle.search_core.specs.Hits.{is_match}
 use Rattle.search_core.specs.Search.{told}
 use Rattle.search_core.specs.Query.{gives}
-use Rattle.search_core.specs.Dead.{gives_dead, gives_vector}
 
 pub keep_none : (r : SearchRequest) (all more : List ShownEntry) (h : Hits) → more ≡ [] → h ≡ told r all → h ≡ told r (all ++ more)
 keep_none r all more h none e = e ∙ ap (told r) (sym (ap (λ es. all ++ es) none ∙ append-nil all))
@@ -43,24 +41,6 @@ gives_gone v f u h = ap (λ o. cond (is_match v f u) (option_to_list o) []) h �
 
 pub gives_one : (v : DirectoryView) (f : Filter) (u : Uid) (e : ShownEntry) → is_match v f u ≡ true → entry_of v u ≡ Some e → gives v f u ≡ e ∷ []
 gives_one v f u e h g = λ i. cond (h i) (option_to_list (g i)) []
-
--- ---- a tombstone, and the entry of the vector
-
-pub meant_one : (f : Filter) (e : ShownEntry) → cond (is_meant f e) (e ∷ []) [] ≡ filter (is_meant f) (e ∷ [])
-meant_one f e = refl
-
-pub dead_unwanted : (v : DirectoryView) (f : Filter) (wanted : List ℕ → Bool) (u : Uid) → wanted (uid_text u) ≡ false → gives_dead v f wanted u ≡ []
-dead_unwanted v f wanted u h = ap (λ b. filter (is_meant f) (cond b (option_to_list (tombstone_of v u)) [])) h
-
-pub dead_gone : (v : DirectoryView) (f : Filter) (wanted : List ℕ → Bool) (u : Uid) → tombstone_of v u ≡ None → gives_dead v f wanted u ≡ []
-dead_gone v f wanted u h = ap (λ o. filter (is_meant f) (cond (wanted (uid_text u)) (option_to_list o) [])) h ∙ by (wanted (uid_text u))
-  where
-    by : (b : Bool) → filter (is_meant f) (cond b (option_to_list (let o : Option ShownEntry = None in o)) []) ≡ []
-    by true = refl
-    by false = refl
-
-pub dead_one : (v : DirectoryView) (f : Filter) (wanted : List ℕ → Bool) (u : Uid) (e : ShownEntry) → wanted (uid_text u) ≡ true → tombstone_of v u ≡ Some e → gives_dead v f wanted u ≡ cond (is_meant f e) (e ∷ []) []
-dead_one v f wanted u e h g = λ i. filter (is_meant f) (cond (h i) (option_to_list (g i)) [])
 
 -- ---- the class of a tombstone
 

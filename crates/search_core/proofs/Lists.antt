@@ -1,5 +1,5 @@
 -- What is found one by one is what is found of all.
-use Rattle.std.proofs.Common.{◌≡◌, ℕ, Bool, true, false, cond, List, [], ◌∷◌, ◌++◌, refl, sym, ap, ◌∙◌, append_assoc}
+use Rattle.std.proofs.Common.{◌≡◌, ℕ, Bool, true, false, cond, List, [], ◌∷◌, ◌++◌, Option, Some, None, refl, sym, ap, ◌∙◌, append_assoc}
 use Rattle.std.specs.Prelude.{filter, flat_map, Result, Ok, Err, IfOk}
 use Rattle.repl_data.specs.declared.items.NoMemory.{NoMemory}
 use Rattle.std.specs.Option.{option_to_list}
@@ -40,15 +40,23 @@ gives_filtered v f (u ∷ us) = by (is_match v f u) (gives_filtered v f us)
 pub found_present : (v : DirectoryView) (f : Filter) (scope : Scope) (base : Uid) → flat_map (gives v f) (in_scope v scope base) ≡ present_found v f scope base
 found_present v f scope base = gives_filtered v f (in_scope v scope base)
 
-filter_flat : {X Y : Type 0} (p : Y → Bool) (g : X → List Y) (xs : List X) → flat_map (λ x. filter p (g x)) xs ≡ filter p (flat_map g xs)
-filter_flat p g [] = refl
-filter_flat p g (x ∷ xs) = ap (λ ys. filter p (g x) ++ ys) (filter_flat p g xs) ∙ sym (filter_append p (g x) (flat_map g xs))
+filter_flat : {X Y : Type 0} (p : Y → Bool) (g h : X → List Y) → ((x : X) → h x ≡ filter p (g x)) → (xs : List X) → flat_map h xs ≡ filter p (flat_map g xs)
+filter_flat p g h e [] = refl
+filter_flat p g h e (x ∷ xs) = (λ i. e x i ++ filter_flat p g h e xs i) ∙ sym (filter_append p (g x) (flat_map g xs))
+
+one_dead : (v : DirectoryView) (f : Filter) (wanted : List ℕ → Bool) (u : Uid) → gives_dead v f wanted u ≡ filter (is_meant f) (cond (wanted (uid_text u)) (option_to_list (tombstone_of v u)) [])
+one_dead v f wanted u = by (wanted (uid_text u)) (tombstone_of v u)
+  where
+    by : (b : Bool) (o : Option ShownEntry) → cond b (cond (elim o [ None ↦ false | Some e ↦ is_meant f e ]) (option_to_list o) []) [] ≡ filter (is_meant f) (cond b (option_to_list o) [])
+    by false o = refl
+    by true None = refl
+    by true (Some e) = refl
 
 pub found_dead : (v : DirectoryView) (vector : List (List ℕ)) (f : Filter) (everything : Bool) (rdns : List Rdn)
     → flat_map (gives_dead v f (is_wanted everything rdns)) (tombstones_of v) ++ gives_vector v.suffix vector f (is_wanted everything rdns vector_id) ≡ dead_found v vector f everything rdns
 found_dead v vector f everything rdns =
     ap (λ es. es ++ gives_vector v.suffix vector f (is_wanted everything rdns vector_id))
-    (filter_flat (is_meant f) (λ (u : Uid). cond (is_wanted everything rdns (uid_text u)) (option_to_list (tombstone_of v u)) []) (tombstones_of v))
+    (filter_flat (is_meant f) (λ (u : Uid). cond (is_wanted everything rdns (uid_text u)) (option_to_list (tombstone_of v u)) []) (gives_dead v f (is_wanted everything rdns)) (one_dead v f (is_wanted everything rdns)) (tombstones_of v))
     ∙ sym (filter_append (is_meant f) (flat_map (λ (u : Uid). cond (is_wanted everything rdns (uid_text u)) (option_to_list (tombstone_of v u)) []) (tombstones_of v)) (cond (is_wanted everything rdns vector_id) (vector_entry v.suffix vector ∷ []) []))
 
 -- what is told of what is visited is told of what is found

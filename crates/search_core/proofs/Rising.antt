@@ -1,7 +1,7 @@
 -- The attributes of each entry stand in order of name, in the view of any changes.
-use Rattle.std.proofs.Common.{◌≡◌, ℕ, Bool, true, false, ◌||◌, cond, List, [], ◌∷◌, ◌++◌, map}
-use Rattle.std.specs.Prelude.{flat_map}
-use Rattle.std.specs.List.{AllByRecursion, list_any}
+use Rattle.std.proofs.Common.{◌≡◌, ℕ, ◌||◌, List, [], ◌∷◌, ◌++◌, map}
+use Rattle.std.specs.Prelude.{flat_map, not}
+use Rattle.std.specs.List.{AllByRecursion}
 use Rattle.std.specs.declared.cmp.Ordering.TheVariants.{Less}
 use Rattle.repl_data.specs.declared.csn.Uid.{Uid}
 use Rattle.repl_data.specs.declared.change.AttrKey.{AttrKey}
@@ -14,13 +14,14 @@ use Rattle.repl_data.specs.Order.{bytes_cmp, in_order_by}
 use Rattle.repl_data.specs.Ordered.{Rises}
 use Rattle.repl_data.specs.Stamps.{Act, acts_on, of_entry}
 use Rattle.repl_data.specs.Facts.{AttrFacts, EntryFacts, attr_of, attr_facts, attrs_facts, entry_facts, ids_known, all_facts, vals_shown, with_values, attrs_shown}
-use Rattle.repl_data.specs.Presence.{is_live, is_child, present_of}
+use Rattle.repl_data.specs.Presence.{present_of, gone_of, is_among_entries}
 use Rattle.repl_data.specs.View.{PresentEntry, view_of}
 use Rattle.repl_data.proofs.Orders.{bytes_total}
 use Rattle.repl_data.proofs.InOrder.{in_order_by-Rises}
-use Rattle.repl_data.proofs.Known.{present_entry}
-use Rattle.repl_data.proofs.Loops.{all_map}
-use Rattle.search_core.specs.Tree.{attr_name, HasRisingAttrs}
+use Rattle.repl_data.proofs.Known.{present_entry, tombstone}
+use Rattle.repl_data.proofs.Loops.{all_map, all_filter}
+use Rattle.repl_data.proofs.Paths.{all_present}
+use Rattle.search_core.specs.Tree.{attr_name, HasRisingAttrs, HadRisingAttrs}
 
 abbrev facts_name : AttrFacts → List ℕ
 facts_name a = a.attr.name
@@ -61,15 +62,12 @@ each_rises : (suffix : Suffix) (xs : List Change) (us : List Uid) → AllByRecur
 each_rises suffix xs [] = tt
 each_rises suffix xs (u ∷ us) = (shown_rise (entry_facts suffix xs u).rdn (attrs_facts (acts_on suffix u (of_entry xs u))) (attrs_rise (acts_on suffix u (of_entry xs u))), each_rises suffix xs us)
 
-all_present : (P : EntryFacts → Type 0) (es : List EntryFacts) → AllByRecursion P es → AllByRecursion P (present_of es)
-all_present P [] h = tt
-all_present P (e ∷ es) h = by (is_live e || list_any (is_child e.id) (present_of es)) (all_present P es h.1)
-  where
-    by : (b : Bool) → AllByRecursion P (present_of es) → AllByRecursion P (cond b (e ∷ present_of es) (present_of es))
-    by true more = (h.0, more)
-    by false more = more
-
 pub view_rises : (suffix : Suffix) (xs : List Change) → AllByRecursion HasRisingAttrs (view_of suffix xs).present
 view_rises suffix xs =
     all_map HasRisingAttrs (present_entry (present_of (all_facts suffix xs))) (present_of (all_facts suffix xs))
     (all_present ShowsRising (all_facts suffix xs) (each_rises suffix xs (ids_known xs)))
+
+pub gone_rises : (suffix : Suffix) (xs : List Change) → AllByRecursion HadRisingAttrs (view_of suffix xs).gone
+gone_rises suffix xs =
+    all_map HadRisingAttrs tombstone (gone_of (all_facts suffix xs))
+    (all_filter ShowsRising (λ (e : EntryFacts). not (is_among_entries (present_of (all_facts suffix xs)) e.id)) (all_facts suffix xs) (each_rises suffix xs (ids_known xs)))

@@ -25,9 +25,6 @@ lt_from m n h = grind (arith, nat_tests)
 le_from : (m n : ℕ) → nat_lt m n ≡ false → n ≤ m
 le_from m n h = grind (arith, nat_tests)
 
-le_true : (m n : ℕ) → m ≤ n → nat_le m n ≡ true
-le_true m n h = grind (arith, nat_tests)
-
 below_from : (m n : ℕ) → nat_le m n ≡ false → n < m
 below_from m n h = grind (arith, nat_tests)
 

@@ -1,6 +1,6 @@
 //! Searches of tombstones, and of the entry of the update vector.
 
-ghost use Rattle.std.specs.Prelude.{◌≡◌, ◌++◌, List, flat_map, codes, IfOk, OnOk};
+ghost use Rattle.std.specs.Prelude.{◌≡◌, ◌++◌, List, flat_map, codes, IfOk, OnOk, OnErr};
 ghost use Rattle.std.specs.List.{list_any};
 ghost use Rattle.std.specs.Option.{option_copied};
 ghost use Rattle.repl_data.specs.declared.csn.Uid.{Uid};
@@ -10,11 +10,13 @@ ghost use Rattle.ldap_types.specs.declared.request.SearchRequest.{SearchRequest}
 ghost use Rattle.filter_truth.specs.Truth.{value_of};
 ghost use Rattle.search_core.specs.Tombstones.{is_some_of, names_class, asks_tombstones, id_in_parts, id_in, is_named, is_wanted, is_dead_name, has_base, has_children};
 ghost use Rattle.search_core.specs.Search.{told, dead_found};
-ghost use Rattle.search_core.specs.Query.{Asks};
+ghost use Rattle.search_core.specs.Tree.{IsTree};
+ghost use Rattle.search_core.specs.Query.{Asks, gives_tombstone, MayTakeTombstone};
 ghost use Rattle.search_core.specs.Dead.{IsClassAttr, is_it, gives_dead, gives_vector};
 
 use crate::found::Hits;
 use crate::made::{VECTOR_ID, vector_entry};
+use crate::matching::is_gone_match;
 use crate::query::{Query, no_hits};
 use crate::scope::Scope;
 use attr_keys::{AttrKey, KeyFault, Kind, attr_key, value_key};
@@ -167,6 +169,28 @@ pub(crate) fn has_children(scope: Scope) -> bool
     }
 }
 
+/// Takes a tombstone if the filter says Yes of it. Takes no memory for another one.
+fn take_tombstone<V: View>(
+    alloc: Global,
+    view: &V,
+    query: &Query,
+    id: Uid,
+    hits: &mut Hits,
+) -> Result<(), NoMemory>
+    requires { IsTree (V.view view.now) }
+    ensures takes { OnOk result ((r : SearchRequest) (all : List ShownEntry) → Asks query.now r → hits.old ≡ told r all → hits.new ≡ told r (all ++ gives_tombstone (V.view view.now) r.filter id)) }
+
+    // Where memory runs out, it was taken for a tombstone of which the filter says Yes.
+    ensures memory { OnErr result (MayTakeTombstone (V.view view.now) query.now id) }
+{
+    if is_gone_match(view, &query.filter, id) {
+        if let Some(entry) = view.tombstone(alloc, id)? {
+            query.take(alloc, entry, hits)?;
+        }
+    }
+    Ok(())
+}
+
 /// Takes a tombstone that is wanted, if the filter says Yes of it.
 fn visit_dead<V: View>(
     alloc: Global,
@@ -177,12 +201,11 @@ fn visit_dead<V: View>(
     id: Uid,
     hits: &mut Hits,
 ) -> Result<(), NoMemory>
+    requires { IsTree (V.view view.now) }
     ensures { OnOk result ((r : SearchRequest) (all : List ShownEntry) → Asks query.now r → hits.old ≡ told r all → hits.new ≡ told r (all ++ gives_dead (V.view view.now) r.filter (is_wanted everything rdns.now) id)) }
 {
     if is_wanted(everything, rdns, id.text().as_slice()) {
-        if let Some(entry) = view.tombstone(alloc, id)? {
-            query.take_meant(alloc, entry, hits)?;
-        }
+        take_tombstone(alloc, view, query, id, hits)?;
     }
     Ok(())
 }
@@ -213,6 +236,7 @@ fn visit_all_dead<V: View>(
     rdns: &[Rdn],
     ids: &[Uid],
 ) -> Result<Hits, NoMemory>
+    requires { IsTree (V.view view.now) }
     ensures { IfOk result (λ hits. (r : SearchRequest) → Asks query.now r → hits ≡ told r (flat_map (gives_dead (V.view view.now) r.filter (is_wanted everything rdns.now)) ids.now)) }
 {
     let mut hits = no_hits(alloc);
@@ -223,7 +247,7 @@ fn visit_all_dead<V: View>(
 }
 
 /// What a search of tombstones finds: of all of them and the vector's entry, or of the one that the name names.
-/// Each one wanted is made as it shows, to be looked at.
+/// A tombstone that is not answered takes no memory; the vector's entry is made to be looked at.
 pub(crate) fn dead_hits<V: View>(
     alloc: Global,
     view: &V,
@@ -232,6 +256,7 @@ pub(crate) fn dead_hits<V: View>(
     everything: bool,
     rdns: &[Rdn],
 ) -> Result<Hits, NoMemory>
+    requires { IsTree (V.view view.now) }
     ensures { IfOk result (λ hits. (r : SearchRequest) → Asks query.now r → hits ≡ told r (dead_found (V.view view.now) vector.now r.filter everything rdns.now)) }
 {
     let ids = view.tombstones(alloc)?;

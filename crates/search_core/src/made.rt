@@ -1,15 +1,14 @@
 //! Entries that stand in no set of changes: the root entry, and the entry of the vector.
 
 ghost use Rattle.std.specs.Prelude.{◌≡◌, ◌++◌, ◌∷◌, [], map, codes, IfOk, OnOk};
-ghost use Rattle.repl_data.specs.Stamps.{text_val};
-ghost use Rattle.repl_data.specs.View.{key_named, operational, tombstone_class};
+ghost use Rattle.repl_data.specs.View.{operational, tombstone_class};
 ghost use Rattle.attr_keys.specs.Table.{kind_of};
 ghost use Rattle.search_core.specs.Made.{directory_val, shown_attr, root_entry, vector_rdn, vector_vals, vector_attrs, vector_entry};
 
 use attr_keys::{KeyFault, Kind, value_key};
 use repl_data::{
     AttrKey, Ava, AvaList, Bytes, Csn, NoMemory, Rdn, Shown, ShownEntry, ShownList, Uid, Val,
-    ValList, VectorText,
+    ValList, VectorText, attr_named, text_val,
 };
 use shown_entry::{dn_text, in_order};
 use std::alloc::Global;
@@ -33,27 +32,11 @@ fn text(alloc: Global, bytes: &[u8]) -> Result<Bytes, NoMemory>
     Bytes::from_slice(alloc, bytes)
 }
 
-fn named(alloc: Global, name: &[u8]) -> Result<AttrKey, NoMemory>
-    ensures { IfOk result (λ t. t ≡ key_named name.now) }
-{
-    let name = text(alloc, name)?;
-    Ok(AttrKey { name })
-}
-
-/// A value whose key is its text.
-fn text_val(alloc: Global, bytes: &[u8]) -> Result<Val, NoMemory>
-    ensures { IfOk result (λ v. v ≡ text_val bytes.now) }
-{
-    let key = text(alloc, bytes)?;
-    let spelled = text(alloc, bytes)?;
-    Ok(Val { key, spelled })
-}
-
 /// An attribute whose values are directory strings.
 fn directory_attr(alloc: Global) -> Result<AttrKey, NoMemory>
     ensures { IfOk result (λ t. kind_of t.name ≡ Kind.Dir) }
 {
-    named(alloc, b"nsds50ruv".as_slice())
+    attr_named(alloc, b"nsds50ruv".as_slice())
 }
 
 /// A value with the key of its text. Bytes that are no text are their own key.
@@ -91,7 +74,7 @@ fn two_vals(alloc: Global, first: Val, second: Val) -> Result<ValList, NoMemory>
 fn shown_attr(alloc: Global, name: &[u8], vals: ValList) -> Result<Shown, NoMemory>
     ensures { IfOk result (λ s. s ≡ shown_attr name.now vals) }
 {
-    let attr = named(alloc, name)?;
+    let attr = attr_named(alloc, name)?;
     Ok(Shown {
         attr,
         vals,
@@ -152,7 +135,7 @@ fn push_operational(
     ensures { OnOk result (attrs.new ≡ attrs.old ++ operational name.now vals) }
 {
     if !vals.is_empty() {
-        let attr = named(alloc, name)?;
+        let attr = attr_named(alloc, name)?;
         attrs.push(Shown {
             attr,
             vals,
@@ -187,7 +170,7 @@ fn vector_attrs(alloc: Global, vector: &VectorText) -> Result<ShownList, NoMemor
 fn vector_rdn(alloc: Global) -> Result<Rdn, NoMemory>
     ensures { IfOk result (λ rdn. rdn ≡ vector_rdn) }
 {
-    let attr = named(alloc, b"nsuniqueid".as_slice())?;
+    let attr = attr_named(alloc, b"nsuniqueid".as_slice())?;
     let val = text_val(alloc, VECTOR_ID.as_slice())?;
     let mut avas = AvaList::new(alloc);
     avas.push(Ava { attr, val })?;

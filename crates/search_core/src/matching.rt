@@ -8,7 +8,7 @@ ghost use Rattle.filter_truth.specs.Three.{is_yes};
 ghost use Rattle.filter_truth.specs.Truth.{name_of};
 ghost use Rattle.filter_truth.specs.Prepared.{StandsFor};
 ghost use Rattle.filter_truth.specs.Lent.{asks_names, IsUntold};
-ghost use Rattle.search_core.specs.Hits.{is_meant, is_match};
+ghost use Rattle.search_core.specs.Hits.{is_meant, is_match, is_gone_match};
 ghost use Rattle.search_core.specs.Tree.{IsTree};
 
 use filter_truth::{Prepared, Truth};
@@ -77,5 +77,16 @@ pub(crate) fn is_match<V: View>(
     match is_lent_match(view, filter, id, own) {
         Some(yes) => Ok(yes),
         None => is_made_match(alloc, view, filter, id),
+    }
+}
+
+/// Whether the filter says Yes of a tombstone. Takes no memory.
+pub(crate) fn is_gone_match<V: View>(view: &V, filter: &Prepared, id: Uid) -> bool
+    requires { IsTree (V.view view.now) }
+    ensures { (f : Filter) → StandsFor filter.now f → result ≡ is_gone_match (V.view view.now) f id }
+{
+    match view.tombstone_own(id) {
+        Some(own) => is_yes(filter.truth_of_tombstone(view, id, own)),
+        None => false,
     }
 }

@@ -59,6 +59,7 @@ fn dead_if<V: View>(
     everything: bool,
     rdns: &[Rdn],
 ) -> Result<Hits, NoMemory>
+    requires { IsTree (V.view view.now) }
     ensures { IfOk result (λ h. (r : SearchRequest) → Asks query.now r → h ≡ told_if inside r (dead_found (V.view view.now) vector.now r.filter everything rdns.now)) }
 {
     if inside {
@@ -77,6 +78,7 @@ fn dead_below<V: View>(
     scope: Scope,
     rdns: &[Rdn],
 ) -> Result<Hits, JudgeFault>
+    requires { IsTree (V.view view.now) }
     ensures { (r : SearchRequest) → Asks query.now r → Gives result (dead_hits (V.view view.now) vector.now r scope rdns.now) }
 {
     if is_dead_name(alloc, view, rdns)? {
@@ -167,9 +169,9 @@ fn told(alloc: Global, hits: Hits) -> Found
 /// in order of id, and then the entry of the update vector, whose texts are given by `vector`. Each is named by its
 /// id, directly below the suffix.
 ///
-/// Visits the entries in scope, up to the limit, and no others; a present entry that is not answered takes no memory,
-/// unless it lost its name and the filter looks at the values of `nsds5ReplConflict`. The time limit and the handling
-/// of aliases are ignored.
+/// Visits the entries in scope, up to the limit, and no others; an entry that is not answered takes no memory, unless it
+/// is that of the vector, or lost its name and the filter looks at the values of `nsds5ReplConflict`. The time limit and
+/// the handling of aliases are ignored.
 pub fn search<V: View>(
     alloc: Global,
     view: &V,

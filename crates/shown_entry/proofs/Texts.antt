@@ -1,14 +1,13 @@
 -- How names are printed, one piece after the other.
-use Rattle.std.proofs.Common.{◌≡◌, ℕ, ◌+◌, ◌<◌, Bool, true, false, List, [], ◌∷◌, ◌++◌, map, length, get_or, drop, add-one, refl, ap, sym, ◌∙◌, append_assoc, arith, length-drop}
+use Rattle.std.proofs.Common.{◌≡◌, ℕ, ◌+◌, ◌<◌, Bool, true, false, List, [], ◌∷◌, ◌++◌, map, length, get_or, drop, add-one, refl, ap, sym, ◌∙◌, append_assoc, arith, length-drop, append-nil}
 use Rattle.std.specs.Prelude.{flat_map, ◌&&◌, ◌==◌}
 use Rattle.std.proofs.lemmas.Bool.Decides.{nat_tests}
 use Rattle.std.proofs.Math.Seq.{drop-cons}
 use Rattle.repl_data.specs.Text.{joined, escaped, escaped_rest}
-use Rattle.repl_data.proofs.Loops.{append_nil}
 
 -- the first piece, and each further one behind a separator
 pub joined_first : {X : Type 0} (sep : List ℕ) (text : X → List ℕ) (x : X) (xs : List X) → joined sep (map text (x ∷ xs)) ≡ text x ++ flat_map (λ a. sep ++ text a) xs
-joined_first sep text x [] = sym (append_nil (text x))
+joined_first sep text x [] = sym (append-nil (text x))
 joined_first sep text x (y ∷ ys) =
     ap (λ r. (text x ++ sep) ++ r) (joined_first sep text y ys)
     ∙ append_assoc (text x) sep (text y ++ flat_map (λ a. sep ++ text a) ys)
@@ -17,7 +16,7 @@ joined_first sep text x (y ∷ ys) =
 -- each piece with a separator, and then the last one
 pub joined_last : {X : Type 0} (sep : List ℕ) (text : X → List ℕ) (xs : List X) (s : List ℕ) → joined sep (map text xs ++ s ∷ []) ≡ flat_map (λ a. text a ++ sep) xs ++ s
 joined_last sep text [] s = refl
-joined_last sep text (x ∷ []) s = ap (λ r. r ++ s) (sym (append_nil (text x ++ sep)))
+joined_last sep text (x ∷ []) s = ap (λ r. r ++ s) (sym (append-nil (text x ++ sep)))
 joined_last sep text (x ∷ y ∷ ys) s =
     ap (λ r. (text x ++ sep) ++ r) (joined_last sep text (y ∷ ys) s)
     ∙ sym (append_assoc (text x ++ sep) (flat_map (λ a. text a ++ sep) (y ∷ ys)) s)
@@ -25,7 +24,7 @@ joined_last sep text (x ∷ y ∷ ys) s =
 -- a byte after the first one
 module _ (b : ℕ) where
   last_byte : (rest : List ℕ) (t : Bool) → t ≡ true → length rest ≡ 0 → escaped_rest (b ∷ rest) ≡ escaped (t && (b == 32)) b ++ escaped_rest rest
-  last_byte [] t e l = ap (λ v. escaped (v && (b == 32)) b) (sym e) ∙ sym (append_nil (escaped (t && (b == 32)) b))
+  last_byte [] t e l = ap (λ v. escaped (v && (b == 32)) b) (sym e) ∙ sym (append-nil (escaped (t && (b == 32)) b))
   last_byte (c ∷ cs) t e l = absurd (omega arith)
 
   inner_byte : (rest : List ℕ) (t : Bool) → t ≡ false → 0 < length rest → escaped_rest (b ∷ rest) ≡ escaped (t && (b == 32)) b ++ escaped_rest rest

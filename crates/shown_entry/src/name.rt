@@ -5,15 +5,15 @@ ghost use Rattle.repl_data.specs.Names.{id_ava, with_id};
 ghost use Rattle.repl_data.specs.View.{tombstone_rdn};
 
 use crate::order::put;
-use crate::shown::{id_val, named};
-use repl_data::{Ava, AvaList, Items, NoMemory, Rdn, Uid};
+use crate::shown::id_val;
+use repl_data::{Ava, AvaList, Items, NoMemory, Rdn, Uid, attr_named};
 use std::alloc::Global;
 
 fn id_ava(alloc: Global, id: Uid) -> Result<Ava, NoMemory>
     ensures { IfOk result (λ a. a ≡ id_ava id) }
 {
     Ok(Ava {
-        attr: named(alloc, b"nsuniqueid".as_slice())?,
+        attr: attr_named(alloc, b"nsuniqueid".as_slice())?,
         val: id_val(alloc, id)?,
     })
 }

@@ -4,14 +4,14 @@ ghost use Rattle.std.specs.Prelude.{◌≡◌, ◌++◌, ◌∷◌, [], List, ma
 ghost use Rattle.repl_data.specs.declared.change.Attr.{Attr};
 ghost use Rattle.repl_data.specs.declared.change.Shown.{Shown};
 ghost use Rattle.repl_data.specs.Order.{bytes_eq};
-ghost use Rattle.repl_data.specs.Stamps.{text_val};
-ghost use Rattle.repl_data.specs.View.{glue_class, tombstone_class, glue_conflict, naming_conflict, naming_conflicts, conflicts, id_val, key_named, user, operational, shown_present, shown_gone};
+ghost use Rattle.repl_data.specs.View.{glue_class, tombstone_class, glue_conflict, naming_conflict, naming_conflicts, conflicts, id_val, user, operational, shown_present, shown_gone};
 ghost use Rattle.shown_entry.specs.Users.{vals_in, classed, in_name_order, present_attrs, gone_attrs};
 
 use crate::key::conflict_key;
 use crate::order::{in_order, put};
 use repl_data::{
-    AttrKey, Bytes, Items, NoMemory, Shown, ShownEntry, ShownList, Uid, Val, ValList, same_bytes,
+    Bytes, Items, NoMemory, Shown, ShownEntry, ShownList, Uid, Val, ValList, attr_named,
+    same_bytes, text_val,
 };
 use std::alloc::Global;
 
@@ -19,24 +19,6 @@ fn text(alloc: Global, bytes: &[u8]) -> Result<Bytes, NoMemory>
     ensures { IfOk result (λ t. t ≡ bytes.now) }
 {
     Bytes::from_slice(alloc, bytes)
-}
-
-/// A value whose key is its text.
-fn text_val(alloc: Global, bytes: &[u8]) -> Result<Val, NoMemory>
-    ensures { IfOk result (λ v. v ≡ text_val bytes.now) }
-{
-    Ok(Val {
-        key: text(alloc, bytes)?,
-        spelled: text(alloc, bytes)?,
-    })
-}
-
-pub(crate) fn named(alloc: Global, name: &[u8]) -> Result<AttrKey, NoMemory>
-    ensures { IfOk result (λ t. t ≡ key_named name.now) }
-{
-    Ok(AttrKey {
-        name: text(alloc, name)?,
-    })
 }
 
 fn glue_class(alloc: Global) -> Result<Val, NoMemory>
@@ -148,7 +130,7 @@ fn copied(users: &ShownList) -> Result<ShownList, NoMemory>
 fn classed(alloc: Global, class: Val, users: &ShownList) -> Result<ShownList, NoMemory>
     ensures { IfOk result (λ all. all ≡ classed class users.now) }
 {
-    let attr = named(alloc, b"objectclass".as_slice())?;
+    let attr = attr_named(alloc, b"objectclass".as_slice())?;
     let mut vals = vals_in(alloc, b"objectclass".as_slice(), users.as_slice())?;
     put(class, &mut vals)?;
     let mut all = copied(users)?;
@@ -183,7 +165,7 @@ fn push_operational(
     ensures { OnOk result (own.new ≡ own.old ++ operational name.now vals) }
 {
     if !vals.is_empty() {
-        let attr = named(alloc, name)?;
+        let attr = attr_named(alloc, name)?;
         own.push(Shown {
             attr,
             vals,

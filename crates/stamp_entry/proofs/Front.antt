@@ -2,9 +2,7 @@
 use Rattle.std.proofs.Common.{◌≡◌, ◌≢◌, Bool, true, false, cond, ℕ, List, [], ◌∷◌, ◌++◌, map, refl, sym, ap, ◌∙◌}
 use Rattle.std.specs.Prelude.{filter, flat_map}
 use Rattle.std.specs.List.{AllByRecursion, list_any}
-use Rattle.std.specs.Ordering.{is_eq, ordering_reverse}
 use Rattle.std.specs.declared.cmp.Ordering.TheVariants.{Equal}
-use Rattle.std.proofs.lemmas.Cmp.{tied_itself}
 use Rattle.repl_data.specs.declared.csn.Csn.{Csn}
 use Rattle.repl_data.specs.declared.change.AttrKey.{AttrKey}
 use Rattle.repl_data.specs.declared.change.Val.{Val}
@@ -15,9 +13,11 @@ use Rattle.repl_data.specs.Stamps.{Act, Adds, Deletes, Clears}
 use Rattle.repl_data.specs.Facts.{ValFacts, AttrFacts, attr_of, is_act_on, keys_named, additions, deletions, clearings, val_facts, attr_facts, attrs_facts}
 use Rattle.repl_data.proofs.Orders.{bytes_total}
 use Rattle.repl_data.proofs.InOrder.{in_order_by-Rises, map-put, found, any-in_order_by}
-use Rattle.repl_data.proofs.Steps.{not_equal}
 use Rattle.repl_data.proofs.Sound.{neither}
-use Rattle.repl_data.proofs.Raised.{same_attr}
+use Rattle.repl_data.proofs.SameView.{same_attr}
+use Rattle.repl_data.proofs.KeyPlaces.{same_self}
+use Rattle.repl_data.proofs.Raised.{other_bytes}
+use Rattle.repl_data.proofs.Loops.{all_filter}
 use Rattle.stamp_entry.specs.Ordered.{val_key, attr_name, HasRisingVals, AreOrdered}
 use Rattle.stamp_entry.specs.Raised.{attr_at}
 use Rattle.stamp_entry.specs.First.{first_val, first_attr, given_first, given_parts}
@@ -53,24 +53,19 @@ added_at_zero key (Deletes s t v ∷ own) h = absurd h.0
 added_at_zero key (Clears s t ∷ own) h = absurd h.0
 
 -- ONE MORE IN FRONT
-same_key : (key : List ℕ) → bytes_eq key key ≡ true
-same_key key = ap is_eq (tied_itself bytes_total key)
-
-other_key : (a b : List ℕ) → bytes_cmp a b ≢ Equal → bytes_eq b a ≡ false
-other_key a b n = not_equal (bytes_cmp b a) (λ e. n (bytes_total.antisymm a b ∙ ap ordering_reverse e))
 
 front_val : (t : AttrKey) (v : Val) (own : List Act) → AllByRecursion IsFirst own → val_facts (Adds zero_csn t v ∷ own) v.key ≡ first_val v
 front_val t v own h =
     let rest = latest_or (zero_csn, []) (flat_map (additions v.key) own) in
     let added : latest_or (zero_csn, []) (flat_map (additions v.key) (Adds zero_csn t v ∷ own)) ≡ (zero_csn, v.spelled) =
-    ap (λ b. latest_or (zero_csn, []) (cond b ((zero_csn, v.spelled) ∷ []) [] ++ flat_map (additions v.key) own)) (same_key v.key)
+    ap (λ b. latest_or (zero_csn, []) (cond b ((zero_csn, v.spelled) ∷ []) [] ++ flat_map (additions v.key) own)) (same_self v.key)
     ∙ ap (λ c. cond (csn_lt zero_csn c) rest (zero_csn, v.spelled)) (added_at_zero v.key own h) in
     let down = ap greatest (no_deletions v.key own h) in
     λ i. record { key = v.key; spelled = (added i).1; up = (added i).0; down = down i }
 
 other_val : (t : AttrKey) (v : Val) (own : List Act) (key : List ℕ) → bytes_cmp v.key key ≢ Equal → val_facts (Adds zero_csn t v ∷ own) key ≡ val_facts own key
 other_val t v own key n =
-    let added = ap (λ b. latest_or (zero_csn, []) (cond b ((zero_csn, v.spelled) ∷ []) [] ++ flat_map (additions key) own)) (other_key v.key key n) in
+    let added = ap (λ b. latest_or (zero_csn, []) (cond b ((zero_csn, v.spelled) ∷ []) [] ++ flat_map (additions key) own)) (other_bytes v.key key n) in
     λ i. record { key = key; spelled = (added i).1; up = (added i).0; down = greatest (flat_map (deletions key) own) }
 
 abbrev vals_by : List Act → List ValFacts
@@ -85,22 +80,14 @@ front_vals t v own h =
     (in_order bytes_cmp (flat_map keys_named own)) (in_order_by-Rises bytes_cmp bytes_total (λ (k : List ℕ). k) (flat_map keys_named own))
     ∙ ap (λ f. put_by val_key bytes_cmp f (vals_by own)) (front_val t v own h)
 
-all_filter : (p : Act → Bool) (acts : List Act) → AllByRecursion IsFirst acts → AllByRecursion IsFirst (filter p acts)
-all_filter p [] h = tt
-all_filter p (a ∷ acts) h = by (p a) (all_filter p acts h.1)
-  where
-    by : (b : Bool) → AllByRecursion IsFirst (filter p acts) → AllByRecursion IsFirst (cond b (a ∷ filter p acts) (filter p acts))
-    by true m = (h.0, m)
-    by false m = m
-
 front_attr : (t : AttrKey) (v : Val) (acts : List Act) → AllByRecursion IsFirst acts → attr_facts (Adds zero_csn t v ∷ acts) t ≡ first_attr v (attr_facts acts t)
 front_attr t v acts h =
     let own = filter (is_act_on t) acts in
-    ap (λ b. attr_by t (cond b (Adds zero_csn t v ∷ own) own)) (same_key t.name)
-    ∙ ap (λ vals. record { attr = t; whole = greatest (flat_map clearings own); vals = vals }) (front_vals t v own (all_filter (is_act_on t) acts h))
+    ap (λ b. attr_by t (cond b (Adds zero_csn t v ∷ own) own)) (same_self t.name)
+    ∙ ap (λ vals. record { attr = t; whole = greatest (flat_map clearings own); vals = vals }) (front_vals t v own (all_filter IsFirst (is_act_on t) acts h))
 
 other_attr : (t : AttrKey) (v : Val) (acts : List Act) (u : AttrKey) → bytes_cmp t.name u.name ≢ Equal → attr_facts (Adds zero_csn t v ∷ acts) u ≡ attr_facts acts u
-other_attr t v acts u n = ap (λ b. attr_by u (cond b (Adds zero_csn t v ∷ filter (is_act_on u) acts) (filter (is_act_on u) acts))) (other_key t.name u.name n)
+other_attr t v acts u n = ap (λ b. attr_by u (cond b (Adds zero_csn t v ∷ filter (is_act_on u) acts) (filter (is_act_on u) acts))) (other_bytes t.name u.name n)
 
 -- the attribute of a name is what acts say of it
 unnamed : (t : AttrKey) (acts : List Act) → list_any (λ (u : AttrKey). bytes_eq t.name u.name) (map attr_of acts) ≡ false → filter (is_act_on t) acts ≡ []

@@ -1,5 +1,5 @@
 -- One change more of an entry, an Add included, in whatever order they come.
-use Rattle.std.proofs.Common.{◌≡◌, List, [], ◌∷◌, ◌++◌, refl, sym, ap, ◌∙◌, append_assoc, inl, inr, ◌⊎◌}
+use Rattle.std.proofs.Common.{◌≡◌, List, [], ◌∷◌, ◌++◌, refl, sym, ap, ◌∙◌, append_assoc, inl, inr, ◌⊎◌, append-nil}
 use Rattle.std.specs.Prelude.{true, false, flat_map, if◌then◌else◌}
 use Rattle.std.specs.List.{AllByRecursion, list_all}
 use Rattle.std.specs.declared.cmp.Ordering.TheVariants.{Less, Greater}
@@ -19,35 +19,26 @@ use Rattle.repl_data.specs.Closed.{is_sound, IsIn}
 use Rattle.repl_data.specs.Facts.{EntryFacts, attrs_facts, names_given, parents_given, deaths, own_facts}
 use Rattle.repl_data.proofs.Orders.{csn_total, csn_exact, uid_exact}
 use Rattle.repl_data.proofs.InOrder.{is_equal}
-use Rattle.repl_data.proofs.Steps.{flat_map-append, append_none}
-use Rattle.repl_data.proofs.ClosedLaws.{zero_least}
-use Rattle.repl_data.proofs.SameView.{base, stamp_of, from_all, body_acts_from}
+use Rattle.repl_data.proofs.Steps.{flat_map-append}
+use Rattle.repl_data.proofs.SameView.{stamp_of, from_all, body_acts_from}
 use Rattle.repl_data.proofs.Sound.{sound_rid, sound_order, not_both, neither, not_false, both_true}
 use Rattle.repl_data.proofs.Raised.{latest_or-append, greatest-append}
-use Rattle.repl_data.proofs.OneChange.{attrs_facts-raised}
+use Rattle.repl_data.proofs.OneChange.{attrs_facts-raised, above_zero, acts_above}
 use Rattle.stamp_entry.specs.Raised.{named_after, parent_after, dead_after, facts_after, raised_by, is_add}
 use Rattle.stamp_entry.specs.History.{IsHistory}
 use Rattle.stamp_entry.proofs.Same.{same_raised_by}
 
--- each stamp of a sound change is above zero
-stamp_above : (c s : Csn) → (c.rid ≡ 0 → ⊥) → base s ≡ base c → csn_cmp zero_csn s ≡ Less
-stamp_above c s n e = elim (zero_least s) [ inl l ↦ l | inr z ↦ absurd (n (sym (ap (λ w. w.rid) (ap base z ∙ e)))) ]
-
-acts_above : (c : Csn) (acts : List Act) → (c.rid ≡ 0 → ⊥) → AllByRecursion (λ a. base (stamp_of a) ≡ base c) acts → AllByRecursion (λ a. csn_cmp zero_csn (stamp_of a) ≡ Less) acts
-acts_above c [] n h = tt
-acts_above c (a ∷ acts) n h = (stamp_above c (stamp_of a) n h.0, acts_above c acts n h.1)
-
 -- the name and the death
 named_one : (none : Csn × Rdn) (xs : List (Csn × Rdn)) (c : Csn) (b : Body) → csn_cmp none.0 c ≡ Less → latest_or none (xs ++ (names_given c b ++ [])) ≡ named_after c b (latest_or none xs)
 named_one none xs c (Add parent rdn attrs) h = latest_or-append none xs (c, rdn) h
-named_one none xs c (Modify mods) h = ap (latest_or none) (append_none xs)
+named_one none xs c (Modify mods) h = ap (latest_or none) (append-nil xs)
 named_one none xs c (Ren rdn dropped) h = latest_or-append none xs (c, rdn) h
-named_one none xs c Del h = ap (latest_or none) (append_none xs)
+named_one none xs c Del h = ap (latest_or none) (append-nil xs)
 
 dead_one : (xs : List Csn) (c : Csn) (b : Body) → greatest (xs ++ (deaths c b ++ [])) ≡ dead_after c b (greatest xs)
-dead_one xs c (Add parent rdn attrs) = ap greatest (append_none xs)
-dead_one xs c (Modify mods) = ap greatest (append_none xs)
-dead_one xs c (Ren rdn dropped) = ap greatest (append_none xs)
+dead_one xs c (Add parent rdn attrs) = ap greatest (append-nil xs)
+dead_one xs c (Modify mods) = ap greatest (append-nil xs)
+dead_one xs c (Ren rdn dropped) = ap greatest (append-nil xs)
 dead_one xs c Del = greatest-append xs c
 
 -- the parent: all Adds of one entry are one
@@ -79,9 +70,9 @@ parent_one none xs c (Add parent rdn attrs) h a =
       | inl e ↦ ap (λ w. later w (c, parent)) e ∙ ap (λ o. if is_lt o then (c, parent) else none) h
       | inr e ↦ ap (λ w. later w (c, parent)) e ∙ later_same (c, parent)
     ])
-parent_one none xs c (Modify mods) h a = ap (λ ys. (latest_or none ys).1) (append_none xs)
-parent_one none xs c (Ren rdn dropped) h a = ap (λ ys. (latest_or none ys).1) (append_none xs)
-parent_one none xs c Del h a = ap (λ ys. (latest_or none ys).1) (append_none xs)
+parent_one none xs c (Modify mods) h a = ap (λ ys. (latest_or none ys).1) (append-nil xs)
+parent_one none xs c (Ren rdn dropped) h a = ap (λ ys. (latest_or none ys).1) (append-nil xs)
+parent_one none xs c Del h a = ap (λ ys. (latest_or none ys).1) (append-nil xs)
 
 -- a sound Add is the change of its entry's id
 id_of : (c : Csn) (u : Uid) (b : Body) (y : Uid) → is_out_of_order c u b ≡ false → parents_given c b ≡ (c, y) ∷ [] → u.csn ≡ c
@@ -121,14 +112,14 @@ module _ (u : Uid) (c : Change) (h : is_sound c ≡ true) (t : c.target ≡ u) w
 -- ONE CHANGE MORE
 pub own_facts-next : (suffix : Suffix) (u : Uid) (own : List Change) (c : Change) → is_sound c ≡ true → c.target ≡ u → IsHistory u own c → facts_after c (own_facts suffix u own) ≡ own_facts suffix u (own ++ c ∷ [])
 own_facts-next suffix u own c h t past =
-    let above : csn_cmp zero_csn c.csn ≡ Less = stamp_above c.csn c.csn (sound_rid c h) refl in
+    let above : csn_cmp zero_csn c.csn ≡ Less = above_zero c.csn c.csn (sound_rid c h) refl in
     let name = ap (latest_or (zero_csn, suffix.rdn)) (flat_map-append (λ (d : Change). names_given d.csn d.body) own (c ∷ [])) ∙ named_one (zero_csn, suffix.rdn) (flat_map (λ (d : Change). names_given d.csn d.body) own) c.csn c.body above in
     let parent = ap (λ ps. (latest_or (zero_csn, suffix_id) ps).1) (flat_map-append (λ (d : Change). parents_given d.csn d.body) own (c ∷ []))
     ∙ parent_one (zero_csn, suffix_id) (flat_map (λ (d : Change). parents_given d.csn d.body) own) c.csn c.body above (all_given u c h t own past.sound past.target past.one) in
     let dead = ap greatest (flat_map-append (λ (d : Change). deaths d.csn d.body) own (c ∷ [])) ∙ dead_one (flat_map (λ (d : Change). deaths d.csn d.body) own) c.csn c.body in
     let start : List Act = (if uid_eq u suffix_id then suffix_acts suffix else []) in
     let acts : acts_on suffix u (own ++ c ∷ []) ≡ acts_on suffix u own ++ body_acts c.csn c.body =
-    ap (λ as_. start ++ as_) (flat_map-append (λ (d : Change). body_acts d.csn d.body) own (c ∷ []) ∙ ap (λ bs. flat_map (λ (d : Change). body_acts d.csn d.body) own ++ bs) (append_none (body_acts c.csn c.body)))
+    ap (λ as_. start ++ as_) (flat_map-append (λ (d : Change). body_acts d.csn d.body) own (c ∷ []) ∙ ap (λ bs. flat_map (λ (d : Change). body_acts d.csn d.body) own ++ bs) (append-nil (body_acts c.csn c.body)))
     ∙ sym (append_assoc start (flat_map (λ (d : Change). body_acts d.csn d.body) own) (body_acts c.csn c.body)) in
     let attrs = ap attrs_facts acts ∙ attrs_facts-raised (acts_on suffix u own) (body_acts c.csn c.body) (acts_above c.csn (body_acts c.csn c.body) (sound_rid c h) (from_all stamp_of c.csn (body_acts c.csn c.body) (body_acts_from c.csn c.body)))
     ∙ same_raised_by (body_acts c.csn c.body) (attrs_facts (acts_on suffix u own)) in
@@ -156,7 +147,7 @@ no_suffix u h = let g : csn_cmp u.csn zero_csn ≡ Greater = csn_total.antisymm 
 
 pub added_facts : (suffix : Suffix) (c : Change) (r : Rdn) → is_sound c ≡ true → is_add c.body ≡ true → facts_after c (blank c.target r) ≡ own_facts suffix c.target (c ∷ [])
 added_facts suffix c r h g =
-    let above : csn_cmp zero_csn c.csn ≡ Less = stamp_above c.csn c.csn (sound_rid c h) refl in
+    let above : csn_cmp zero_csn c.csn ≡ Less = above_zero c.csn c.csn (sound_rid c h) refl in
     let given = some_parent c.csn c.body g in
     let id : c.target.csn ≡ c.csn = add_id c given.0 h given.1 in
     let other : uid_eq c.target suffix_id ≡ false = no_suffix c.target (ap (csn_cmp zero_csn) id ∙ above) in

@@ -10,7 +10,9 @@ ghost use Rattle.stamp_entry.specs.First.{first_val, first_attr, given_first, gi
 
 use crate::entry::{StampedAttr, StampedAttrList, StampedEntry, StampedVal};
 use crate::raise::take;
-use repl_data::{AttrKey, Ava, Bytes, Csn, Items, NoMemory, Rdn, Suffix, Uid, Val, put_by_key};
+use repl_data::{
+    AttrKey, Ava, Bytes, Csn, Items, NoMemory, Rdn, Suffix, Uid, Val, put_by_key, text_val,
+};
 use std::alloc::Global;
 
 /// A value that an entry has from the start.
@@ -74,15 +76,6 @@ fn class_attr(alloc: Global) -> Result<AttrKey, NoMemory>
 {
     Ok(AttrKey {
         name: Bytes::from_slice(alloc, b"objectclass".as_slice())?,
-    })
-}
-
-fn text_val(alloc: Global, text: &[u8]) -> Result<Val, NoMemory>
-    ensures { IfOk result (λ v. v ≡ text_val text.now) }
-{
-    Ok(Val {
-        key: Bytes::from_slice(alloc, text)?,
-        spelled: Bytes::from_slice(alloc, text)?,
     })
 }
 

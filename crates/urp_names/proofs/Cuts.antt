@@ -10,6 +10,7 @@ use Rattle.std.specs.Cmp.{IsTotalOrder}
 use Rattle.std.proofs.lemmas.Cmp.{tied_itself}
 use Rattle.repl_data.specs.Order.{put_by, by_order}
 use Rattle.repl_data.proofs.Orders.{split}
+use Rattle.repl_data.proofs.Loops.{all_filter}
 use Rattle.urp_names.specs.declared.contenders.Contender.{Contender}
 use Rattle.urp_names.specs.Contending.{IsOneOf, IsCut}
 
@@ -152,20 +153,12 @@ module _ {K : Type 0} (R : K → K → Ordering) (total : IsTotalOrder R) (key :
   above_all c d [] h g = tt
   above_all c d (e ∷ es) h g = (total.trans (key c) (key d) (key e) h g.0, above_all c d es h g.1)
 
-  all_kept : (P : Contender → Type 0) (p : Contender → Bool) (cs : List Contender) → AllByRecursion P cs → AllByRecursion P (filter p cs)
-  all_kept P p [] h = tt
-  all_kept P p (c ∷ cs) h = by (p c) (all_kept P p cs h.1)
-    where
-      by : (b : Bool) → AllByRecursion P (filter p cs) → AllByRecursion P (cond b (c ∷ filter p cs) (filter p cs))
-      by true more = (h.0, more)
-      by false more = more
-
   pub rises_kept : (p : Contender → Bool) (cs : List Contender) → Rises cs → Rises (filter p cs)
   rises_kept p [] h = tt
   rises_kept p (c ∷ cs) h = by (p c) (rises_kept p cs h.1)
     where
       by : (b : Bool) → Rises (filter p cs) → Rises (cond b (c ∷ filter p cs) (filter p cs))
-      by true more = (all_kept (λ (d : Contender). R (key c) (key d) ≡ Less) p cs h.0, more)
+      by true more = (all_filter (λ (d : Contender). R (key c) (key d) ≡ Less) p cs h.0, more)
       by false more = more
 
   -- a choice of what was put to its place
@@ -186,7 +179,7 @@ module _ {K : Type 0} (R : K → K → Ordering) (total : IsTotalOrder R) (key :
         (λ e. ap (filter p) (put_step c d ds Greater e) ∙ behind e (p c) (p d) (filter_put c ds r.1))
       where
         before : R (key c) (key d) ≡ Less → (b : Bool) → cond b (c ∷ filter p (d ∷ ds)) (filter p (d ∷ ds)) ≡ put_if b c (filter p (d ∷ ds))
-        before e true = sym (put_above c (filter p (d ∷ ds)) (all_kept (λ (x : Contender). R (key c) (key x) ≡ Less) p (d ∷ ds) (e, above_all c d ds e r.0)))
+        before e true = sym (put_above c (filter p (d ∷ ds)) (all_filter (λ (x : Contender). R (key c) (key x) ≡ Less) p (d ∷ ds) (e, above_all c d ds e r.0)))
         before e false = refl
 
         instead : R (key c) (key d) ≡ Equal → (a b : Bool) → a ≡ b → cond a (c ∷ filter p ds) (filter p ds) ≡ put_if a c (cond b (d ∷ filter p ds) (filter p ds))

@@ -13,14 +13,12 @@ use Rattle.repl_data.specs.declared.csn.Uid.{Uid}
 use Rattle.repl_data.specs.Order.{csn_cmp, uid_cmp, uid_eq, by_order}
 use Rattle.repl_data.proofs.Orders.{csn_exact, uid_total, uid_exact, split, put_swap}
 use Rattle.repl_data.proofs.InOrder.{put-Rises, in_order_by-Rises}
+use Rattle.repl_data.proofs.Known.{same_id, eq_turned}
+use Rattle.repl_data.proofs.Bools.{cases}
 use Rattle.urp_names.specs.declared.contenders.Contender.{Contender}
 use Rattle.urp_names.specs.Contending.{Contending, IsOneOf, IsCut, HasRisingIds, id_of, comes_before, first_of, least_of, contends, put_one, without, claim_cmp, rank_cmp, by_rank, is_beaten, IsFront, IsInFront, of_id, place_for, after_put, after_take}
 use Rattle.urp_names.proofs.Cuts.{Pairs, put_in, IsFresh, below, below_first, put_fresh, taken_out, all_put, put_above, rises_kept, filter_put, in_front, front_has, all_front}
-use Rattle.urp_names.proofs.Least.{claim_total, before_is, turned, any_before, before_of, before_any, least_member}
-
-decide : {G : Type 0} (b : Bool) → (b ≡ true → G) → (b ≡ false → G) → G
-decide true f g = f refl
-decide false f g = g refl
+use Rattle.urp_names.proofs.Least.{claim_total, before_is, turned, any_before, before_of, before_any, least_member, taken_gone}
 
 -- THE ORDER
 abbrev pub same : Contender → Contender
@@ -57,21 +55,13 @@ put_rises c cs h = put-Rises uid_cmp uid_total id_of c cs h
 pub left_rises : (u : Uid) (cs : List Contender) → HasRisingIds cs → HasRisingIds (without u cs)
 left_rises u cs h = rises_kept uid_cmp uid_total id_of (λ (c : Contender). not (uid_eq c.id u)) cs h
 
-turned_eq : (u v : Uid) → uid_eq u v ≡ uid_eq v u
-turned_eq u v = ap is_eq (uid_total.antisymm u v) ∙ reversed (uid_cmp v u)
-  where
-    reversed : (o : Ordering) → is_eq (ordering_reverse o) ≡ is_eq o
-    reversed Less = refl
-    reversed Equal = refl
-    reversed Greater = refl
-
 neither : {G : Type 0} (a b : Bool) → (a || b) ≡ false → (a ≡ false → b ≡ false → G) → G
 neither true b h f = let e : true ≡ false = h in cc
 neither false b h f = f refl h
 
 pub fresh_id : (c : Contender) (cs : List Contender) → contends c.id cs ≡ false → IsFresh uid_cmp uid_total id_of c cs
 fresh_id c [] h = tt
-fresh_id c (d ∷ ds) h = neither (uid_eq d.id c.id) (contends c.id ds) h (λ a b. (turned_eq c.id d.id ∙ a, fresh_id c ds b))
+fresh_id c (d ∷ ds) h = neither (uid_eq d.id c.id) (contends c.id ds) h (λ a b. (eq_turned c.id d.id ∙ a, fresh_id c ds b))
 
 pub kept_all : (u : Uid) (cs : List Contender) → contends u cs ≡ false → without u cs ≡ cs
 kept_all u [] h = refl
@@ -80,11 +70,11 @@ kept_all u (c ∷ cs) h = neither (uid_eq c.id u) (contends u cs) h (λ a b. ap 
 none_above : (u : Uid) (c : Contender) (cs : List Contender) → uid_cmp u c.id ≡ Less → AllByRecursion (λ (d : Contender). uid_cmp c.id d.id ≡ Less) cs → contends u cs ≡ false
 none_above u c [] h g = refl
 none_above u c (d ∷ ds) h g =
-    ap (λ b. b || contends u ds) (turned_eq d.id u ∙ ap is_eq (uid_total.trans u c.id d.id h g.0)) ∙ none_above u c ds h g.1
+    ap (λ b. b || contends u ds) (eq_turned d.id u ∙ ap is_eq (uid_total.trans u c.id d.id h g.0)) ∙ none_above u c ds h g.1
 
 none_behind : (u : Uid) (c : Contender) (cs : List Contender) → c.id ≡ u → AllByRecursion (λ (d : Contender). uid_cmp c.id d.id ≡ Less) cs → contends u cs ≡ false
 none_behind u c [] e g = refl
-none_behind u c (d ∷ ds) e g = ap (λ b. b || contends u ds) (turned_eq d.id u ∙ ap (λ v. uid_eq v d.id) (sym e) ∙ ap is_eq g.0) ∙ none_behind u c ds e g.1
+none_behind u c (d ∷ ds) e g = ap (λ b. b || contends u ds) (eq_turned d.id u ∙ ap (λ v. uid_eq v d.id) (sym e) ∙ ap is_eq g.0) ∙ none_behind u c ds e g.1
 
 abbrev pub lower : Uid → Contender → Bool
 lower u c = is_lt (uid_cmp c.id u)
@@ -121,23 +111,15 @@ of_eq {G = G} u x c e f = by (uid_eq x.id u) refl e
     by true k h = (let p : x ≡ c = cc in f p k)
     by false k h = let g : ◌≡◌ {A = Option Contender} None (Some c) = h in cc
 
-some_id : (u v : Uid) → uid_eq u v ≡ true → u ≡ v
-some_id u v h = uid_exact u v (by (uid_cmp u v) h)
-  where
-    by : (o : Ordering) → is_eq o ≡ true → o ≡ Equal
-    by Less k = let f : false ≡ true = k in cc
-    by Equal k = refl
-    by Greater k = let f : false ≡ true = k in cc
-
 -- the one at the cut is taken out there, and put back it stands there again
 pub cut_out : (u : Uid) (cs : List Contender) (n : ℕ) (c : Contender) → HasRisingIds cs → IsCut (lower u) cs n → of_id u (slice_get cs n) ≡ Some c
     → (n < length cs) × (c.id ≡ u) × (remove cs n ≡ without u cs) × (put_one c (without u cs) ≡ cs)
 cut_out u [] n c r h e = let f : ◌≡◌ {A = Option Contender} None (Some c) = e in cc
 cut_out u (x ∷ xs) zero c r h e =
     of_eq u x c e (λ p k.
-    let rest : without u (x ∷ xs) ≡ xs = ap (λ b. cond (not b) (x ∷ without u xs) (without u xs)) k ∙ kept_all u xs (none_behind u x xs (some_id x.id u k) r.0) in (
+    let rest : without u (x ∷ xs) ≡ xs = ap (λ b. cond (not b) (x ∷ without u xs) (without u xs)) k ∙ kept_all u xs (none_behind u x xs (same_id x.id u k) r.0) in (
       omega arith,
-      ap id_of (sym p) ∙ some_id x.id u k,
+      ap id_of (sym p) ∙ same_id x.id u k,
       sym rest,
       ap (put_one c) rest ∙ subst (λ w. put_one w xs ≡ x ∷ xs) p (put_above uid_cmp uid_total id_of x xs r.0),
     ))
@@ -160,24 +142,16 @@ cut_out u (x ∷ xs) (suc n) c r h e =
         less Equal e = let f : false ≡ true = e in cc
         less Greater e = let f : false ≡ true = e in cc
 
-pub taken_away : (u : Uid) (cs : List Contender) → contends u (without u cs) ≡ false
-taken_away u [] = refl
-taken_away u (c ∷ cs) = by (uid_eq c.id u) refl (taken_away u cs)
-  where
-    by : (b : Bool) → uid_eq c.id u ≡ b → contends u (without u cs) ≡ false → contends u (cond (not b) (c ∷ without u cs) (without u cs)) ≡ false
-    by true e more = more
-    by false e more = ap (λ t. t || contends u (without u cs)) e ∙ more
-
 pub put_instead : (c : Contender) (cs : List Contender) → HasRisingIds cs → put_one c (without c.id cs) ≡ put_one c cs
 put_instead c [] r = refl
 put_instead c (d ∷ ds) r =
     split (uid_cmp c.id d.id)
-    (λ k. ap (put_one c) (kept_all c.id (d ∷ ds) (ap (λ b. b || contends c.id ds) (turned_eq d.id c.id ∙ ap is_eq k) ∙ none_above c.id d ds k r.0)))
+    (λ k. ap (put_one c) (kept_all c.id (d ∷ ds) (ap (λ b. b || contends c.id ds) (eq_turned d.id c.id ∙ ap is_eq k) ∙ none_above c.id d ds k r.0)))
     (λ k. let e : c.id ≡ d.id = uid_exact c.id d.id k in
-    ap (put_one c) (ap (λ b. cond (not b) (d ∷ without c.id ds) (without c.id ds)) (turned_eq d.id c.id ∙ ap is_eq k) ∙ kept_all c.id ds (none_behind c.id d ds (sym e) r.0))
+    ap (put_one c) (ap (λ b. cond (not b) (d ∷ without c.id ds) (without c.id ds)) (eq_turned d.id c.id ∙ ap is_eq k) ∙ kept_all c.id ds (none_behind c.id d ds (sym e) r.0))
     ∙ put_above uid_cmp uid_total id_of c ds (subst (λ v. AllByRecursion (λ (x : Contender). uid_cmp v x.id ≡ Less) ds) (sym e) r.0)
     ∙ ap (λ o. by_order o (c ∷ d ∷ ds) (c ∷ ds) (d ∷ put_one c ds)) (sym k))
-    (λ k. ap (put_one c) (ap (λ b. cond (not b) (d ∷ without c.id ds) (without c.id ds)) (turned_eq d.id c.id ∙ ap is_eq k))
+    (λ k. ap (put_one c) (ap (λ b. cond (not b) (d ∷ without c.id ds) (without c.id ds)) (eq_turned d.id c.id ∙ ap is_eq k))
     ∙ ap (λ o. by_order o (c ∷ d ∷ without c.id ds) (c ∷ without c.id ds) (d ∷ put_one c (without c.id ds))) k ∙ ap (λ xs. d ∷ xs) (put_instead c ds r.1)
     ∙ ap (λ o. by_order o (c ∷ d ∷ ds) (c ∷ ds) (d ∷ put_one c ds)) (sym k))
 
@@ -188,7 +162,7 @@ rank_put c (d ∷ ds) h =
     neither (uid_eq d.id c.id) (contends c.id ds) h (λ a b.
     split (uid_cmp c.id d.id)
     (λ k. ap (λ o. by_rank (by_order o (c ∷ d ∷ ds) (c ∷ ds) (d ∷ put_one c ds))) k)
-    (λ k. let f : true ≡ false = sym (turned_eq d.id c.id ∙ ap is_eq k) ∙ a in cc)
+    (λ k. let f : true ≡ false = sym (eq_turned d.id c.id ∙ ap is_eq k) ∙ a in cc)
     (λ k. ap (λ o. by_rank (by_order o (c ∷ d ∷ ds) (c ∷ ds) (d ∷ put_one c ds))) k
     ∙ ap (put_rank d) (rank_put c ds b) ∙ put_swap rank_cmp rank_total same rank_exact d c (by_rank ds)))
 
@@ -206,7 +180,7 @@ fresh_rank c cs h = all_ranked (λ (d : Contender). is_eq (rank_cmp c d) ≡ fal
 
     all : (cs : List Contender) → contends c.id cs ≡ false → AllByRecursion (λ (d : Contender). is_eq (rank_cmp c d) ≡ false) cs
     all [] h = tt
-    all (d ∷ ds) h = neither (uid_eq d.id c.id) (contends c.id ds) h (λ a b. (behind (claim_cmp c d) (uid_cmp c.id d.id) (turned_eq c.id d.id ∙ a), all ds b))
+    all (d ∷ ds) h = neither (uid_eq d.id c.id) (contends c.id ds) h (λ a b. (behind (claim_cmp c d) (uid_cmp c.id d.id) (eq_turned c.id d.id ∙ a), all ds b))
 
 pub rank_without : (u : Uid) (cs : List Contender) → without u (by_rank cs) ≡ by_rank (without u cs)
 rank_without u [] = refl
@@ -261,7 +235,7 @@ first_others u cs r = sym (head_kept (λ (c : Contender). not (uid_eq c.id u)) (
 -- THE FRONT: who is not behind the first one
 pub front_first : (f x y : Contender) → rank_cmp x y ≡ Less → not (comes_before f y) ≡ true → not (comes_before f x) ≡ true
 front_first f x y h k =
-    decide (comes_before f x)
+    cases (comes_before f x)
     (λ t. let less : claim_cmp f x ≡ Less = is_less (claim_cmp f x) (sym (before_is f x) ∙ t) in
     let far : comes_before f y ≡ true = before_is f y ∙ ap is_lt (beyond less (claim_cmp x y) refl h) in
     let g : false ≡ true = ap not (sym far) ∙ k in cc)
@@ -400,7 +374,7 @@ longer c (d ∷ ds) h =
     neither (uid_eq d.id c.id) (contends c.id ds) h (λ a b.
     split (uid_cmp c.id d.id)
     (λ k. ap (λ o. length (by_order o (c ∷ d ∷ ds) (c ∷ ds) (d ∷ put_one c ds))) k)
-    (λ k. let f : true ≡ false = sym (turned_eq d.id c.id ∙ ap is_eq k) ∙ a in cc)
+    (λ k. let f : true ≡ false = sym (eq_turned d.id c.id ∙ ap is_eq k) ∙ a in cc)
     (λ k. ap (λ o. length (by_order o (c ∷ d ∷ ds) (c ∷ ds) (d ∷ put_one c ds))) k ∙ ap suc (longer c ds b)))
 
 -- WHAT PUTS AND TAKES LEAVE
@@ -425,7 +399,7 @@ pub out_ranked : (u : Uid) (cs : List Contender) (n : ℕ) (c : Contender) (rs :
     → (k < length rs) × (remove rs k ≡ by_rank (without u cs))
 out_ranked u cs n c rs k r cut is e low =
     let out = cut_out u cs n c r cut is in
-    let none : contends c.id (without u cs) ≡ false = ap (λ v. contends v (without u cs)) out.1 ∙ taken_away u cs in
+    let none : contends c.id (without u cs) ≡ false = ap (λ v. contends v (without u cs)) out.1 ∙ taken_gone u cs in
     let as_put : rs ≡ put_rank c (by_rank (without u cs)) = e ∙ ap by_rank (sym out.3) ∙ rank_put c (without u cs) none in
     subst (λ xs. (k < length xs) × (remove xs k ≡ by_rank (without u cs))) (sym as_put)
     (taken_out rank_cmp rank_total same c (by_rank (without u cs)) k (fresh_rank c (without u cs) none) (subst (λ xs. IsCut (λ (d : Contender). is_lt (rank_cmp d c)) xs k) as_put low))
@@ -433,7 +407,7 @@ out_ranked u cs n c rs k r cut is e low =
 pub took : (u : Uid) (s : Contending) (n : ℕ) (c : Contender) (cs : List Contender) → HasRisingIds s.who → IsCut (lower u) s.who n → of_id u (slice_get s.who n) ≡ Some c → cs ≡ remove s.who n → record { who = cs; spare = s.spare + 1 } ≡ after_take u s
 took u s n c cs r cut is e =
     let out = cut_out u s.who n c r cut is in
-    let none : contends c.id (without u s.who) ≡ false = ap (λ v. contends v (without u s.who)) out.1 ∙ taken_away u s.who in
+    let none : contends c.id (without u s.who) ≡ false = ap (λ v. contends v (without u s.who)) out.1 ∙ taken_gone u s.who in
     let l : length s.who ≡ suc (length (without u s.who)) = ap length (sym out.3) ∙ longer c (without u s.who) none in
     let m : s.spare + 1 ≡ length s.who + s.spare - length (without u s.who) = omega (arith, l) in
     λ i. record { who = (e ∙ out.2) i; spare = m i }
@@ -453,14 +427,14 @@ room_after u s t w p q = subst (λ (x : Contending). 0 < x.spare) (sym (q ∙ ap
     by false e = let l = fewer u s.who in let m : 1 ≤ max s.spare 1 = omega arith in omega arith
 
 pub fresh_after : (u : Uid) (t w : Contending) → w ≡ after_take u t → contends u w.who ≡ false
-fresh_after u t w q = ap (λ (x : Contending). contends u x.who) q ∙ taken_away u t.who
+fresh_after u t w q = ap (λ (x : Contending). contends u x.who) q ∙ taken_gone u t.who
 
 pub put_after : (c : Contender) (s t w v : Contending) → HasRisingIds s.who → t ≡ record s { spare = place_for c.id s } → w ≡ after_take c.id t → v.who ≡ put_one c w.who → v.spare + 1 ≡ w.spare → v ≡ after_put c s
 put_after c s t w v r p q h k =
     let is : w ≡ after_take c.id (record s { spare = place_for c.id s }) = q ∙ ap (after_take c.id) p in
     let who : v.who ≡ put_one c s.who = h ∙ ap (λ (x : Contending). put_one c x.who) is ∙ put_instead c s.who r in
     let spare : v.spare + 1 ≡ length s.who + place_for c.id s - length (without c.id s.who) = k ∙ ap (λ (x : Contending). x.spare) is in
-    let long : length (put_one c s.who) ≡ suc (length (without c.id s.who)) = ap length (sym (put_instead c s.who r)) ∙ longer c (without c.id s.who) (taken_away c.id s.who) in
+    let long : length (put_one c s.who) ≡ suc (length (without c.id s.who)) = ap length (sym (put_instead c s.who r)) ∙ longer c (without c.id s.who) (taken_gone c.id s.who) in
     let left : v.spare ≡ length s.who + s.spare - length (put_one c s.who) = by (contends c.id s.who) refl spare long in
     λ i. record { who = who i; spare = left i }
   where

@@ -1,10 +1,12 @@
 //! Entries as they show: their printed names, and tombstones.
 ghost use Rattle.std.specs.Prelude.{◌≡◌, ◌∷◌, List, ℕ, true, false, not, Some, None, [], IfOk, MatchOption, if◌then◌else◌};
+ghost use Rattle.std.specs.Option.{option_copied};
 ghost use Rattle.repl_data.specs.Order.{uid_eq, suffix_id};
 ghost use Rattle.repl_data.specs.Facts.{EntryFacts};
 ghost use Rattle.repl_data.specs.Presence.{is_live, present_of, is_among_entries};
 ghost use Rattle.repl_data.specs.Names.{has_name, shown_rdn};
 ghost use Rattle.repl_data.specs.View.{view_of_facts, path_of, dn_of, dn_below, entry_of, present_shown, tombstone_of, tombstone_rdn, tombstone_shown};
+ghost use Rattle.repl_data.specs.Lent.{tombstone_own_of, tombstone_parent_of};
 ghost use Rattle.stamp_entry.specs.Shown.{users_shown};
 ghost use Rattle.urp_tree.specs.Rows.{row_at, facts_in};
 ghost use Rattle.urp_tree.specs.Known.{IsTree};
@@ -15,7 +17,7 @@ use crate::room::seat_count;
 use crate::row::Row;
 use crate::seat::Rows;
 use crate::way::row_of;
-use repl_data::{Bytes, Items, NoMemory, Rdn, ShownEntry, Uid};
+use repl_data::{Bytes, Items, NoMemory, Rdn, Shown, ShownEntry, Uid};
 use shown_entry::{dn_text, tombstone_rdn, with_id};
 use stamp_entry::StampedEntry;
 use std::alloc::Global;
@@ -119,6 +121,28 @@ pub(crate) fn tombstone(
     match gone_row(rows, id) {
         Some(row) => Ok(Some(gone_shown(suffix, alloc, row)?)),
         None => Ok(None),
+    }
+}
+
+/// The user attributes that a tombstone shows. One look-up.
+pub(crate) fn tombstone_own(rows: &Rows, id: Uid) -> Option<&[Shown]>
+    requires { IsTree rows.now None [] }
+    ensures { (suffix : List ℕ) → option_copied result ≡ tombstone_own_of (view_of_facts suffix (facts_in rows.now.entries)) id }
+{
+    match gone_row(rows, id) {
+        Some(row) => Some(row.shown.as_slice()),
+        None => None,
+    }
+}
+
+/// The parent that a tombstone had. One look-up.
+pub(crate) fn tombstone_parent(rows: &Rows, id: Uid) -> Option<Uid>
+    requires { IsTree rows.now None [] }
+    ensures { (suffix : List ℕ) → result ≡ tombstone_parent_of (view_of_facts suffix (facts_in rows.now.entries)) id }
+{
+    match gone_row(rows, id) {
+        Some(row) => Some(above(&row.entry)),
+        None => None,
     }
 }
 

@@ -2,9 +2,9 @@
 
 use case_changes::{next_rdn, next_uid};
 use case_lines::{CaseFault, Fields, or_memory};
-use case_views::{tell_entry, tell_optional_uid, tell_uids};
+use case_views::{tell_attrs, tell_entry, tell_optional_uid, tell_uids};
 use plain_view::PlainView;
-use repl_data::{ShownEntry, View};
+use repl_data::{Shown, ShownEntry, View};
 use std::alloc::Global;
 use std::fmt::Write;
 
@@ -49,6 +49,8 @@ pub fn answer<V: View>(
             let entry = or_memory(view.tombstone(alloc, next_uid(fields)?))?;
             tell_found(told, &entry)
         }
+        "tombstone-parent" => tell_optional_uid(told, view.tombstone_parent(next_uid(fields)?)),
+        "tombstone-own" => tell_own(told, view.tombstone_own(next_uid(fields)?)),
         _ => Err(CaseFault::Subject),
     }
 }
@@ -67,9 +69,21 @@ fn child<V: View>(
 fn tell_found(told: &mut String, entry: &Option<ShownEntry>) -> Result<(), CaseFault> {
     match entry {
         Some(entry) => tell_entry(told, entry),
-        None => {
-            told.push_str("none")?;
-            Ok(())
-        }
+        None => tell_none(told),
     }
+}
+
+fn tell_own(told: &mut String, own: Option<&[Shown]>) -> Result<(), CaseFault> {
+    match own {
+        Some(own) => {
+            told.push_str("own")?;
+            tell_attrs(told, own)
+        }
+        None => tell_none(told),
+    }
+}
+
+fn tell_none(told: &mut String) -> Result<(), CaseFault> {
+    told.push_str("none")?;
+    Ok(())
 }

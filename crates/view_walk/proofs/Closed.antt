@@ -8,25 +8,22 @@ use Rattle.repl_data.specs.declared.csn.Uid.{Uid}
 use Rattle.repl_data.specs.declared.change.Body.{Body}
 use Rattle.repl_data.specs.declared.change.Body.TheVariants.{Add, Mod as Modify, Ren, Del}
 use Rattle.repl_data.specs.declared.change.Change.{Change}
-use Rattle.repl_data.specs.declared.change.Malformed.TheVariants.{Root}
 use Rattle.repl_data.specs.declared.change.Suffix.{Suffix}
 use Rattle.repl_data.specs.Order.{csn_lt, csn_eq, uid_cmp, uid_eq, suffix_id, zero_csn, rdn_key, greatest, latest_or}
 use Rattle.repl_data.specs.Text.{IsInRange}
-use Rattle.repl_data.specs.Check.{faults_of_frame, faults_of_body, is_of_root}
 use Rattle.repl_data.specs.Stamps.{of_entry}
-use Rattle.repl_data.specs.Facts.{EntryFacts, entry_facts, parents_given, deaths, added_ids, ids_known, all_facts}
+use Rattle.repl_data.specs.Facts.{EntryFacts, entry_facts, parents_given, added_ids, ids_known, all_facts}
 use Rattle.repl_data.specs.Closed.{IsClosed, is_sound, is_known, is_rooted}
 use Rattle.repl_data.specs.Presence.{is_live, is_child, present_of, is_among_entries, is_present_in, StandsIn, HasParentBelow}
 use Rattle.repl_data.specs.View.{PresentEntry, view_of, is_shown_below}
-use Rattle.repl_data.proofs.Sound.{both_true, no_fault, no_faults}
-use Rattle.repl_data.proofs.Known.{any_map, known_ids, present_entry}
-use Rattle.repl_data.proofs.ClosedLaws.{all_facts-Rises, all_facts-below, closed_presence}
+use Rattle.repl_data.proofs.Sound.{both_true}
+use Rattle.repl_data.proofs.Known.{any_map, known_ids, present_entry, own_id, same_id}
+use Rattle.repl_data.proofs.ClosedLaws.{all_facts-Rises, all_facts-below, closed_presence, no_deaths}
 use Rattle.repl_data.proofs.NamesClosed.{closed_differ}
+use Rattle.repl_data.proofs.Bools.{either_first, either_second, cases}
 use Rattle.view_walk.specs.Tree.{IsAmong, AreRising, HasParentBelow as IsAboveParent, HasParentThere, is_present, IsNamedTree}
-use Rattle.view_walk.proofs.Members.{never, either, of_map, one_of, each_of}
+use Rattle.view_walk.proofs.Members.{of_map, one_of, each_of}
 use Rattle.view_walk.proofs.Rising.{Rise, rise_map, all_join}
-use Rattle.view_walk.proofs.Lineage.{own_eq, same_id}
-use Rattle.view_walk.proofs.Within.{left_true, right_true}
 
 abbrev IsLower : EntryFacts → EntryFacts → Type 0
 IsLower e f = uid_cmp e.id f.id ≡ Less
@@ -70,30 +67,10 @@ find_facts (d ∷ es) u h = by (uid_eq d.id u) refl h (find_facts es u)
 
 any_of : {X : Type 0} (p : X → Bool) (x : X) (xs : List X) → IsAmong x xs → p x ≡ true → list_any p xs ≡ true
 any_of p x [] m h = elim m [ ]
-any_of p x (y ∷ xs) (inl e) h = left_true (p y) (list_any p xs) (ap p (sym e) ∙ h)
-any_of p x (y ∷ xs) (inr m) h = right_true (p y) (list_any p xs) (any_of p x xs m h)
+any_of p x (y ∷ xs) (inl e) h = either_first (p y) (list_any p xs) (ap p (sym e) ∙ h)
+any_of p x (y ∷ xs) (inr m) h = either_second (p y) (list_any p xs) (any_of p x xs m h)
 
 -- ---- the suffix entry has no death
-sound_root : (c : Change) → is_sound c ≡ true → is_of_root c.target c.body ≡ false
-sound_root c h = no_fault (is_of_root c.target c.body) Root (no_faults (faults_of_frame c ++ faults_of_body c.body) h).1.1.1.0
-
-no_deaths : (xs : List Change) → list_all is_sound xs ≡ true → flat_map (λ (c : Change). deaths c.csn c.body) (of_entry xs suffix_id) ≡ []
-no_deaths [] h = refl
-no_deaths (c ∷ xs) h =
-    let h' = both_true _ _ h in
-    by (uid_eq c.target suffix_id) refl (no_deaths xs h'.1) (of_body c.body (sound_root c h'.0))
-  where
-    of_body : (b : Body) → is_of_root c.target b ≡ false → uid_eq c.target suffix_id ≡ true → deaths c.csn b ≡ []
-    of_body (Add parent rdn attrs) r own = refl
-    of_body (Modify mods) r own = refl
-    of_body (Ren rdn dropped) r own = refl
-    of_body Del r own = never _ own r
-
-    by : (b : Bool) → uid_eq c.target suffix_id ≡ b → flat_map (λ (d : Change). deaths d.csn d.body) (of_entry xs suffix_id) ≡ []
-        → (uid_eq c.target suffix_id ≡ true → deaths c.csn c.body ≡ [])
-        → flat_map (λ (d : Change). deaths d.csn d.body) (cond b (c ∷ of_entry xs suffix_id) (of_entry xs suffix_id)) ≡ []
-    by true own rest none = (λ i. none own i ++ rest i)
-    by false own rest none = rest
 
 root_lives : (suffix : Suffix) (xs : List Change) → list_all is_sound xs ≡ true → is_live (entry_facts suffix xs suffix_id) ≡ true
 root_lives suffix xs h = ap (λ (cs : List Csn). csn_eq (greatest cs) zero_csn) (no_deaths xs h)
@@ -140,7 +117,7 @@ module _ (suffix : Suffix) (xs : List Change) (closed : IsClosed xs) where
   parent_known : (u : Uid) → is_known xs (entry_facts suffix xs u).parent ≡ true
   parent_known u =
       latest_such (λ (p : Uid). is_known xs p ≡ true) (zero_csn, suffix_id) (flat_map (λ (c : Change). parents_given c.csn c.body) (of_entry xs u))
-      (left_true (uid_eq suffix_id suffix_id) (list_any (uid_eq suffix_id) (added_ids xs)) (own_eq suffix_id)) (own_parents xs u xs closed.rooted)
+      (either_first (uid_eq suffix_id suffix_id) (list_any (uid_eq suffix_id) (added_ids xs)) (own_id suffix_id)) (own_parents xs u xs closed.rooted)
 
   parents_known : (e : EntryFacts) → IsAmong e all → is_known xs e.parent ≡ true
   parents_known e m =
@@ -151,7 +128,7 @@ module _ (suffix : Suffix) (xs : List Change) (closed : IsClosed xs) where
   rule e m = one_of (λ (f : EntryFacts). is_present_in all f ≡ (is_live f || list_any (is_child f.id) present)) e all m (closed_presence suffix xs closed)
 
   root_among : HasFacts all suffix_id
-  root_among = find_facts all suffix_id (known_ids suffix xs suffix_id ∙ left_true (uid_eq suffix_id suffix_id) (list_any (uid_eq suffix_id) (added_ids xs)) (own_eq suffix_id))
+  root_among = find_facts all suffix_id (known_ids suffix xs suffix_id ∙ either_first (uid_eq suffix_id suffix_id) (list_any (uid_eq suffix_id) (added_ids xs)) (own_id suffix_id))
 
   root_present : is_among_entries present suffix_id ≡ true
   root_present =
@@ -159,14 +136,14 @@ module _ (suffix : Suffix) (xs : List Change) (closed : IsClosed xs) where
       let u = of_map (entry_facts suffix xs) f.facts (ids_known xs) f.among in
       let id : u.0 ≡ suffix_id = sym (ap (λ (e : EntryFacts). e.id) u.2) ∙ f.own in
       let live : is_live f.facts ≡ true = subst (λ (e : EntryFacts). is_live e ≡ true) (sym (u.2 ∙ ap (entry_facts suffix xs) id)) (root_lives suffix xs closed.sound) in
-      subst (λ (w : Uid). is_among_entries present w ≡ true) f.own (rule f.facts f.among ∙ left_true (is_live f.facts) (list_any (is_child f.facts.id) present) live)
+      subst (λ (w : Uid). is_among_entries present w ≡ true) f.own (rule f.facts f.among ∙ either_first (is_live f.facts) (list_any (is_child f.facts.id) present) live)
 
   parent_present : (e : EntryFacts) → IsAmong e present → uid_eq e.id suffix_id ≡ false → is_among_entries present e.parent ≡ true
   parent_present e m r =
       let f = find_facts all e.parent (known_ids suffix xs e.parent ∙ parents_known e (of_present e all m)) in
-      let child : is_child f.facts.id e ≡ true = (λ i. ap (λ (w : Uid). uid_eq e.parent w) f.own i && not (r i)) ∙ ap (λ b. b && true) (own_eq e.parent) in
+      let child : is_child f.facts.id e ≡ true = (λ i. ap (λ (w : Uid). uid_eq e.parent w) f.own i && not (r i)) ∙ ap (λ b. b && true) (own_id e.parent) in
       subst (λ (w : Uid). is_among_entries present w ≡ true) f.own
-      (rule f.facts f.among ∙ right_true (is_live f.facts) (list_any (is_child f.facts.id) present) (any_of (is_child f.facts.id) e present m child))
+      (rule f.facts f.among ∙ either_second (is_live f.facts) (list_any (is_child f.facts.id) present) (any_of (is_child f.facts.id) e present m child))
 
   -- ---- in the view
   shown_there : (u : Uid) → is_present (view_of suffix xs) u ≡ is_among_entries present u
@@ -191,7 +168,7 @@ module _ (suffix : Suffix) (xs : List Change) (closed : IsClosed xs) where
       each_of (HasParentThere (view_of suffix xs)) (view_of suffix xs).present
       (λ e m. (let f = of_view e m in
       subst (HasParentThere (view_of suffix xs)) (sym f.2)
-      (either (uid_eq f.0.id suffix_id) (λ r. inl r) (λ r. inr (shown_there f.0.parent ∙ parent_present f.0 f.1 r)))))
+      (cases (uid_eq f.0.id suffix_id) (λ r. inl r) (λ r. inr (shown_there f.0.parent ∙ parent_present f.0 f.1 r)))))
 
   apart : AllByRecursion (λ (c : Change). IsInRange c.csn) xs → (u : Uid) (e f : PresentEntry) → IsAmong e (view_of suffix xs).present → IsAmong f (view_of suffix xs).present
       → is_shown_below u e ≡ true → is_shown_below u f ≡ true → rdn_key e.shown ≡ rdn_key f.shown → e.id ≡ f.id

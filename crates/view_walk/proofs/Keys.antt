@@ -6,11 +6,13 @@ use Rattle.repl_data.specs.declared.csn.Uid.{Uid}
 use Rattle.repl_data.specs.declared.change.Rdn.{Rdn}
 use Rattle.repl_data.specs.Order.{uid_eq, suffix_id, rdn_key}
 use Rattle.repl_data.specs.View.{DirectoryView, PresentEntry, path_of}
+use Rattle.repl_data.proofs.Known.{same_id}
+use Rattle.repl_data.proofs.Bools.{either_true}
 use Rattle.view_walk.specs.Tree.{IsAmong, IsNamedTree}
 use Rattle.view_walk.specs.Walk.{is_within}
 use Rattle.view_walk.proofs.Members.{never}
-use Rattle.view_walk.proofs.Lineage.{same_id, path_lineage, lineage_step, climb}
-use Rattle.view_walk.proofs.Within.{is_under, one_true, under_step, under_none, IsChild, child_facts}
+use Rattle.view_walk.proofs.Lineage.{path_lineage, lineage_step, climb}
+use Rattle.view_walk.proofs.Within.{is_under, under_step, under_none, IsChild, child_facts}
 
 abbrev pub Keys : Type 0
 Keys = List (List (List ℕ × List ℕ))
@@ -45,7 +47,7 @@ module _ (v : DirectoryView) (t : IsNamedTree v) where
   under_keys base =
       climb v t (λ (u : Uid). is_under v base u ≡ true → GoesFurther (keys v base) (keys v u))
       (λ u none h. never _ h (under_none v t base u none))
-      (λ e m r again h. one_true (uid_eq e.parent base) (is_under v base e.parent) (sym (under_step v t base e m r) ∙ h)
+      (λ e m r again h. either_true (uid_eq e.parent base) (is_under v base e.parent) (sym (under_step v t base e m r) ∙ h)
       (λ g. record { next = rdn_key e.shown; rest = []; is = keys_step e m r ∙ ap (λ (w : Uid). keys v w ++ rdn_key e.shown ∷ []) (same_id e.parent base g) })
       (λ g. longer e m r (again g)))
     where
@@ -58,7 +60,7 @@ module _ (v : DirectoryView) (t : IsNamedTree v) where
 
   pub within_keys : (base u : Uid) → is_within v base u ≡ true → GoesOn (keys v base) (keys v u)
   within_keys base u h =
-      one_true (uid_eq u base) (is_under v base u) h
+      either_true (uid_eq u base) (is_under v base u) h
       (λ g. record { rest = []; is = ap (keys v) (same_id u base g) ∙ sym (append-nil (keys v base)) })
       (λ g. (let k = under_keys base u g in record { rest = k.next ∷ k.rest; is = k.is }))
 

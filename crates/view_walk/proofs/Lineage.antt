@@ -3,15 +3,15 @@ use Rattle.std.proofs.Common.{◌≡◌, List, [], ◌∷◌, ◌++◌, map, ref
 use Rattle.std.specs.Prelude.{Bool, true, false, cond, not, ◌&&◌, ◌||◌, reverse, find, Option, Some}
 use Rattle.std.specs.List.{AllByRecursion, list_any}
 use Rattle.std.specs.declared.cmp.Ordering.TheVariants.{Less}
-use Rattle.std.specs.Ordering.{is_eq, ordering_reverse}
-use Rattle.std.proofs.lemmas.Cmp.{tied_itself}
+use Rattle.std.specs.Ordering.{is_eq}
 use Rattle.repl_data.specs.declared.csn.Uid.{Uid}
 use Rattle.repl_data.specs.declared.change.Rdn.{Rdn}
 use Rattle.repl_data.specs.Order.{uid_cmp, uid_eq, suffix_id}
 use Rattle.repl_data.specs.View.{DirectoryView, PresentEntry, path_among}
-use Rattle.repl_data.proofs.Orders.{uid_total, uid_exact}
-use Rattle.repl_data.proofs.InOrder.{is_equal}
+use Rattle.repl_data.proofs.Orders.{uid_total}
 use Rattle.repl_data.proofs.ClosedLaws.{no_csn_below}
+use Rattle.repl_data.proofs.Known.{own_id, same_id}
+use Rattle.repl_data.proofs.Paths.{differs}
 use Rattle.view_walk.specs.Tree.{IsAmong, AreRising, HasParentBelow, is_present, IsNamedTree}
 use Rattle.view_walk.specs.Walk.{lineage_among}
 use Rattle.view_walk.proofs.Members.{never, of_reverse, in_reverse, one_of, each_of}
@@ -19,15 +19,6 @@ use Rattle.view_walk.proofs.Rising.{Rise, rise_reverse}
 
 abbrev Below : PresentEntry → PresentEntry → Type 0
 Below a b = uid_cmp b.id a.id ≡ Less
-
-pub own_eq : (u : Uid) → uid_eq u u ≡ true
-own_eq u = ap is_eq (tied_itself uid_total u)
-
-pub same_id : (u w : Uid) → uid_eq u w ≡ true → u ≡ w
-same_id u w h = uid_exact u w (is_equal _ h)
-
-differs : (u w : Uid) → uid_cmp u w ≡ Less → uid_eq w u ≡ false
-differs u w h = ap is_eq (uid_total.antisymm w u) ∙ ap (λ o. is_eq (ordering_reverse o)) h
 
 -- ---- among entries in falling order of id
 
@@ -41,7 +32,7 @@ step_among : (es : List PresentEntry) (e : PresentEntry) → Rise Below es → A
 step_among [] e f b s r = elim s [ ]
 step_among (d ∷ es) e f b (inl same) r =
     subst (λ (x : PresentEntry). lineage_among (d ∷ es) x.id ≡ x ∷ lineage_among (d ∷ es) x.parent) (sym same)
-    (at_entry d es d.id false (own_eq d.id) own ∙ ap (λ p. d ∷ p) (sym (passed d es d.parent (below b.0))))
+    (at_entry d es d.id false (own_id d.id) own ∙ ap (λ p. d ∷ p) (sym (passed d es d.parent (below b.0))))
   where
     own : uid_eq d.id suffix_id ≡ false
     own = subst (λ (x : PresentEntry). uid_eq x.id suffix_id ≡ false) same r
@@ -113,7 +104,7 @@ no_entry (d ∷ es) u h = by (uid_eq d.id u) refl h (no_entry es u)
 
 pub entry_there : (es : List PresentEntry) (e : PresentEntry) → IsAmong e es → list_any (λ (f : PresentEntry). uid_eq f.id e.id) es ≡ true
 entry_there [] e m = elim m [ ]
-entry_there (d ∷ es) e (inl p) = ap (λ b. b || list_any (λ (f : PresentEntry). uid_eq f.id e.id) es) (ap (λ (x : PresentEntry). uid_eq x.id e.id) (sym p) ∙ own_eq e.id)
+entry_there (d ∷ es) e (inl p) = ap (λ b. b || list_any (λ (f : PresentEntry). uid_eq f.id e.id) es) (ap (λ (x : PresentEntry). uid_eq x.id e.id) (sym p) ∙ own_id e.id)
 entry_there (d ∷ es) e (inr m) = later (uid_eq d.id e.id) (entry_there es e m)
   where
     later : (a : Bool) {b : Bool} → b ≡ true → (a || b) ≡ true
@@ -124,7 +115,7 @@ entry_there (d ∷ es) e (inr m) = later (uid_eq d.id e.id) (entry_there es e m)
 pub find_own : (es : List PresentEntry) (e : PresentEntry) → AreRising es → IsAmong e es → find (λ (f : PresentEntry). uid_eq f.id e.id) es ≡ Some e
 find_own [] e r m = elim m [ ]
 find_own (d ∷ es) e r (inl same) =
-    ap (λ b. cond b (Some d) (find (λ (f : PresentEntry). uid_eq f.id e.id) es)) (ap (λ (x : PresentEntry). uid_eq x.id e.id) (sym same) ∙ own_eq e.id)
+    ap (λ b. cond b (Some d) (find (λ (f : PresentEntry). uid_eq f.id e.id) es)) (ap (λ (x : PresentEntry). uid_eq x.id e.id) (sym same) ∙ own_id e.id)
     ∙ ap Some (sym same)
 find_own (d ∷ es) e r (inr m) =
     ap (λ b. cond b (Some d) (find (λ (f : PresentEntry). uid_eq f.id e.id) es)) (ap is_eq (one_of (λ (f : PresentEntry). uid_cmp d.id f.id ≡ Less) e es m r.0))

@@ -11,10 +11,6 @@ use Rattle.view_walk.specs.Tree.{IsAmong}
 pub never : {G : Type 0} (b : Bool) → b ≡ true → b ≡ false → G
 never b t f = let e : true ≡ false = sym t ∙ f in cc
 
-pub either : {G : Type 0} (b : Bool) → (b ≡ true → G) → (b ≡ false → G) → G
-either true t f = t refl
-either false t f = f refl
-
 module _ {X : Type 0} where
   pub in_front : (x : X) (xs ys : List X) → IsAmong x xs → IsAmong x (xs ++ ys)
   in_front x [] ys m = elim m [ ]

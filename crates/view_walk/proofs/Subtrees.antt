@@ -10,12 +10,14 @@ use Rattle.repl_data.specs.Order.{uid_cmp, uid_eq, suffix_id, rdn_key_cmp}
 use Rattle.repl_data.specs.View.{DirectoryView, PresentEntry, children_of, path_key, path_key_cmp, in_path_order}
 use Rattle.repl_data.proofs.Orders.{uid_exact}
 use Rattle.repl_data.proofs.InOrder.{in_order_by-Rises}
+use Rattle.repl_data.proofs.Known.{same_id}
+use Rattle.repl_data.proofs.Bools.{either_second, either_true}
 use Rattle.view_walk.specs.Tree.{IsAmong, IsNamedTree, is_present}
 use Rattle.view_walk.specs.Walk.{is_within, subtree}
 use Rattle.view_walk.proofs.Members.{in_filter, of_filter, in_map, of_map, in_flat, of_flat, each_of, of_in_order, in_in_order}
 use Rattle.view_walk.proofs.Rising.{Rise, rise_filter, rise_map, rise_flat, same_list}
-use Rattle.view_walk.proofs.Lineage.{HasEntry, find_entry, entry_there, same_id}
-use Rattle.view_walk.proofs.Within.{is_under, one_true, right_true, within_own, of_child, some_child, all_within}
+use Rattle.view_walk.proofs.Lineage.{HasEntry, find_entry, entry_there}
+use Rattle.view_walk.proofs.Within.{is_under, within_own, of_child, some_child, all_within}
 use Rattle.view_walk.proofs.Keys.{keys}
 use Rattle.view_walk.proofs.Orders.{path_total, last_equal, IsBefore, before_none, before_trans, base_first, child_first}
 use Rattle.view_walk.proofs.Children.{in_name_order, IsNamedBefore, child_of_list, child_in_list, children_rise, names_differ}
@@ -92,11 +94,11 @@ module _ (v : DirectoryView) (t : IsNamedTree v) where
   forth : (base : Uid) → (u : Uid) → IsAmong u (subtree v base) → IsAmong u (base ∷ below base)
   forth base u m =
       let s = of_subtree v base u m in
-      one_true (uid_eq u base) (is_under v base u) s.0 (λ g. inl (same_id u base g)) (λ g. inr (in_below base u s.1 g))
+      either_true (uid_eq u base) (is_under v base u) s.0 (λ g. inl (same_id u base g)) (λ g. inr (in_below base u s.1 g))
 
   back : (base : Uid) → is_present v base ≡ true → (u : Uid) → IsAmong u (base ∷ below base) → IsAmong u (subtree v base)
   back base there u (inl e) = subst (λ (w : Uid). IsAmong w (subtree v base)) (sym e) (in_subtree v base base (find_entry v.present base there) (within_own v t base))
-  back base there u (inr m) = let s = of_below base u m in in_subtree v base u s.1 (right_true (uid_eq u base) (is_under v base u) s.0)
+  back base there u (inr m) = let s = of_below base u m in in_subtree v base u s.1 (either_second (uid_eq u base) (is_under v base u) s.0)
 
   pub subtree_step : (base : Uid) → is_present v base ≡ true → subtree v base ≡ base ∷ flat_map (subtree v) (children_of v base)
   subtree_step base there =

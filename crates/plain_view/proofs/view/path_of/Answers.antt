@@ -1,7 +1,6 @@
-use Rattle.std.proofs.Common.{◌≡◌, ℕ, ◌+◌, ◌-◌, ◌++◌, take, ap, sym, ◌∙◌, append_assoc, arith}
+use Rattle.std.proofs.Common.{◌≡◌, ℕ, ◌+◌, ◌-◌, ◌++◌, take, ap, sym, ◌∙◌, append_assoc, arith, append-nil}
 use Rattle.std.specs.Prelude.{reverse}
 use Rattle.repl_data.specs.View.{path_among}
-use Rattle.repl_data.proofs.Loops.{append_nil}
 use Rattle.plain_view.proofs.Views.{path_more, step_names, step_up}
 use Rattle.plain_view.proofs.view.path_of.Goals as goal
 
@@ -25,6 +24,6 @@ pub returns : goal.returns
 returns c =
     let es = c.args.present.now in
     let from : 0 ≡ c.loop-left.left = omega arith in
-    sym (append_nil c.loop-left.path)
+    sym (append-nil c.loop-left.path)
     ∙ ap (λ (k : ℕ). c.loop-left.path ++ path_among (reverse (take k es)) c.loop-left.up) from
     ∙ c.loop-left.invariant.1

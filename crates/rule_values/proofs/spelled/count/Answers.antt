@@ -1,6 +1,6 @@
 use Rattle.std.proofs.Common.{sym, ◌∙◌}
 use Rattle.std.proofs.lemmas.List.{length-map}
-use Rattle.rule_values.specs.Sets.{val_of}
+use Rattle.rule_values.specs.Entries.{val_of}
 use Rattle.rule_values.proofs.spelled.count.Goals as goal
 
 pub returns : goal.returns

@@ -1,6 +1,6 @@
 use Rattle.std.proofs.Common.{◌≡◌, ◌++◌}
-use Rattle.rule_values.specs.Sets.{vals_of}
+use Rattle.rule_values.specs.Entries.{vals_of}
 use Rattle.rule_values.proofs.spelled.to_list.Given as goal
 
-abbrev pub invariant-loop-bytes : goal.invariant-loop-bytes
-invariant-loop-bytes l = l.vals ++ vals_of l.bytes-iterator ≡ vals_of l.spelled.entries
+abbrev pub invariant-loop-whole : goal.invariant-loop-whole
+invariant-loop-whole l = l.vals ++ vals_of l.whole-iterator ≡ vals_of l.spelled.entries
