@@ -13,7 +13,7 @@ use Rattle.repl_data.specs.declared.csn.Uid.{Uid}
 use Rattle.repl_data.specs.declared.change.Rdn.{Rdn}
 use Rattle.repl_data.specs.Order.{uid_cmp, uid_eq, suffix_id}
 use Rattle.repl_data.specs.View.{DirectoryView, PresentEntry, Tombstone, present_at, gone_at, first_of_two, name_of, parent_of, tombstones_of, user, entry_of, tombstone_of, present_shown, tombstone_shown, shown_present, dn_of, dn_below, path_of}
-use Rattle.repl_data.specs.Lent.{own_of, standing_of, standing}
+use Rattle.repl_data.specs.Lent.{own_of, standing_of, standing, tombstone_own_of, tombstone_parent_of}
 use Rattle.repl_data.proofs.Orders.{uid_total, uid_exact, split}
 use Rattle.repl_data.proofs.InOrder.{is_equal}
 use Rattle.cow_map.specs.Rows.{IsRising}
@@ -317,3 +317,9 @@ module _ (suffix : List ℕ) (rows : List (Uid × Told)) (r : IsRising uid_cmp r
 
   pub tombstone_is : option_map (gone_with seen u) (gone_only (told_at rows u)) ≡ tombstone_of seen u
   tombstone_is = of_gone (tombstone_shown seen) (gone_with seen u) (λ t. refl)
+
+  pub gone_own_is : option_map (λ (t : Told). map user t.attrs) (gone_only (told_at rows u)) ≡ tombstone_own_of seen u
+  gone_own_is = of_gone (λ (e : Tombstone). map user e.attrs) (λ (t : Told). map user t.attrs) (λ t. refl)
+
+  pub gone_parent_is : option_map (λ (t : Told). t.parent) (gone_only (told_at rows u)) ≡ tombstone_parent_of seen u
+  gone_parent_is = of_gone (λ (e : Tombstone). e.parent) (λ (t : Told). t.parent) (λ t. refl)

@@ -3,7 +3,7 @@ ghost use Rattle.std.specs.Prelude.{◌≡◌, ◌++◌, List, ℕ, IfOk, OnOk};
 ghost use Rattle.std.specs.Option.{option_copied};
 ghost use Rattle.repl_data.specs.Order.{uid_cmp};
 ghost use Rattle.repl_data.specs.View.{name_of, parent_of, tombstones_of};
-ghost use Rattle.repl_data.specs.Lent.{own_of, standing_of};
+ghost use Rattle.repl_data.specs.Lent.{own_of, standing_of, tombstone_own_of, tombstone_parent_of};
 ghost use Rattle.cow_map.specs.Rows.{IsRising};
 ghost use Rattle.view_snap.specs.Told.{view_of_rows, present_only, gone_only, gone_ids};
 ghost use Rattle.view_snap.specs.Maps.{told_at};
@@ -90,6 +90,28 @@ pub(crate) fn standing(entries: &Entries, id: Uid) -> Option<Standing>
 {
     match present(entries, id) {
         Some(seen) => Some(seen.standing()),
+        None => None,
+    }
+}
+
+/// The user attributes that a tombstone shows. One look-up.
+pub(crate) fn tombstone_own(entries: &Entries, id: Uid) -> Option<&[Shown]>
+    requires { IsRising uid_cmp entries.now }
+    ensures { (suffix : List ℕ) → option_copied result ≡ tombstone_own_of (view_of_rows suffix entries.now) id }
+{
+    match gone(entries, id) {
+        Some(seen) => Some(seen.users().as_slice()),
+        None => None,
+    }
+}
+
+/// The parent that a tombstone had. One look-up.
+pub(crate) fn tombstone_parent(entries: &Entries, id: Uid) -> Option<Uid>
+    requires { IsRising uid_cmp entries.now }
+    ensures { (suffix : List ℕ) → result ≡ tombstone_parent_of (view_of_rows suffix entries.now) id }
+{
+    match gone(entries, id) {
+        Some(seen) => Some(seen.parent()),
         None => None,
     }
 }

@@ -4,7 +4,7 @@ ghost use Rattle.repl_data.specs.View.{DirectoryView};
 ghost use Rattle.urp_tree.specs.Known.{known_view};
 ghost use Rattle.urp_tree.specs.Moves.{IsViewMove, empty_view};
 
-use crate::asked::{name, own, parent, standing, tombstones};
+use crate::asked::{name, own, parent, standing, tombstone_own, tombstone_parent, tombstones};
 use crate::listing::{child, children};
 use crate::maps::{Maps, put_all};
 use crate::shown::{entry, tombstone};
@@ -197,5 +197,15 @@ impl View for Snapshot {
     /// One look-up.
     fn standing(&self, id: Uid) -> Option<Standing> {
         standing(&self.maps.entries, id)
+    }
+
+    /// One look-up.
+    fn tombstone_own(&self, id: Uid) -> Option<&[Shown]> {
+        tombstone_own(&self.maps.entries, id)
+    }
+
+    /// One look-up.
+    fn tombstone_parent(&self, id: Uid) -> Option<Uid> {
+        tombstone_parent(&self.maps.entries, id)
     }
 }
