@@ -179,7 +179,12 @@ IsSigned-drop_needless b (c ∷ bytes) =
       | inr never ↦ subst (λ (xs : List ℕ). IsSigned (b ∷ c ∷ bytes) xs) (sym (keeps b (c ∷ bytes) never)) (itself b (c ∷ bytes))
     ]
 
-IsBytes-append_right : (xs ys : List ℕ) → IsBytes (xs ++ ys) → IsBytes ys
+pub IsBytes-append_left : (xs ys : List ℕ) → IsBytes (xs ++ ys) → IsBytes xs
+IsBytes-append_left [] ys h i = omega arith
+IsBytes-append_left (x ∷ xs) ys h zero = h zero
+IsBytes-append_left (x ∷ xs) ys h (suc i) = IsBytes-append_left xs ys (λ j. h (suc j)) i
+
+pub IsBytes-append_right : (xs ys : List ℕ) → IsBytes (xs ++ ys) → IsBytes ys
 IsBytes-append_right [] ys h = h
 IsBytes-append_right (x ∷ xs) ys h = IsBytes-append_right xs ys (λ i. h (suc i))
 

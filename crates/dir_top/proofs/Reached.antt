@@ -35,6 +35,8 @@ use Rattle.dir_top.specs.Serving.{Served, after_plain, after_write, serve_op, se
 use Rattle.dir_top.proofs.WritesAt.{write-node}
 use Rattle.dir_top.specs.Script.{is_built, is_one_write, TheNode, TheConnection, TheTicket, NewTicket, why_if, why_first, why_name, why_state, why_at, why_last, first_why, why_of, start_by, start_of, carried, goes_on, unless_refused, line_step, step_of, script_line, line_limit, length_limit}
 use Rattle.dir_top.proofs.Leading.{leads-refl, leads-then, leads-event}
+use Rattle.repl_data.proofs.Sound.{not_false}
+use Rattle.repl_data.proofs.Bools.{or-left}
 
 -- ---- reasons that do not stand
 
@@ -58,18 +60,6 @@ why_if-none : (b : Bool) (reason : LineWhy) → why_if b reason ≡ None → b �
 why_if-none true reason e = absurd cc
 why_if-none false reason e = refl
 
-not-false : (b : Bool) → not b ≡ false → b ≡ true
-not-false true e = refl
-not-false false e = absurd (true≢false e)
-
-not-true' : (b : Bool) → not b ≡ true → b ≡ false
-not-true' true e = absurd (true≢false (sym e))
-not-true' false e = refl
-
-neither : (a b : Bool) → (a || b) ≡ false → a ≡ false
-neither true b e = absurd (true≢false e)
-neither false b e = refl
-
 -- ---- tickets
 
 no_ticket : (o : Option Ticket) → is_some o ≡ false → o ≡ None
@@ -85,7 +75,7 @@ not_committed k (Some t) e = why_if-none t.committed _ e
 
 is_committed' : (k : ℕ) (o : Option Ticket) → why_state k true (committed_of o) ≡ None → IfSome o (λ (t : Ticket). t.committed ≡ true)
 is_committed' k None e = tt
-is_committed' k (Some t) e = not-false t.committed (why_if-none (not t.committed) _ e)
+is_committed' k (Some t) e = not_false t.committed (why_if-none (not t.committed) _ e)
 
 has_session : (o : Option Session) → is_none o ≡ false → IsSome o
 has_session None e = absurd (true≢false e)
@@ -152,7 +142,7 @@ module _ (s : State) (lawful : IsLawful s.world) where
   inputs : (c : ℕ) (bytes : List ℕ) (connection : Connection) → why_at s connection ≡ None → Carries s (fed s c bytes connection).0
   inputs c bytes Closed w = same
   inputs c bytes (Open node instance client) w =
-      let there = not-false (is_node s.world node) (why_if-none (not (is_node s.world node)) (why.Node node) w) in
+      let there = not_false (is_node s.world node) (why_if-none (not (is_node s.world node)) (why.Node node) w) in
       let requests = (stream_of (with_bytes client bytes).held).requests in
       let start : Served = record { world = s.world; bound = client.bound; replies = [] } in
       serves-lead node start requests lawful (is_node-means s.world node there)
@@ -178,8 +168,8 @@ module _ (s : State) (lawful : IsLawful s.world) where
       let l = line.StartWrite k c bytes in
       let reasons = four_none (why_first (Some s) l) (why_name s (NewTicket k)) (why_name s (TheConnection c)) (why_last s l) w in
       let free = why_if-none (is_some (ticket_in s.world k)) (why.TicketTaken k) reasons.0 in
-      let one = neither (not (is_one_write (request_of bytes))) _ (why_if-none _ why.Request reasons.2) in
-      starts k c (request_of bytes) (no_ticket (ticket_in s.world k) free) (not-false (is_one_write (request_of bytes)) one)
+      let one = or-left (not (is_one_write (request_of bytes))) _ (why_if-none _ why.Request reasons.2) in
+      starts k c (request_of bytes) (no_ticket (ticket_in s.world k) free) (not_false (is_one_write (request_of bytes)) one)
   carries (line.Commit k) b w =
       let reasons = three_none (why_first (Some s) (line.Commit k)) (why_name s (TheTicket k)) (why_last s (line.Commit k)) w in
       leads-event judge_view s.world (event.Commit k) (not_committed k (ticket_in s.world k) reasons.1)

@@ -1,5 +1,5 @@
 -- How a run goes on by one line, and how a script falls into lines.
-use Rattle.std.proofs.Common.{◌≡◌, ◌≢◌, ℕ, ◌+◌, ◌<◌, ◌≤◌, Bool, true, false, List, [], ◌∷◌, ◌++◌, drop, get_or, length, Option, Result, Ok, Err, inl, inr, refl, sym, ap, subst, ◌∙◌, append_assoc, length-append, add-one, arith, le-ltb, lt-ltb}
+use Rattle.std.proofs.Common.{◌≡◌, ◌≢◌, ℕ, ◌+◌, ◌<◌, ◌≤◌, true, false, List, [], ◌∷◌, ◌++◌, drop, get_or, length, Option, Result, Ok, Err, inl, inr, refl, sym, ap, subst, ◌∙◌, append_assoc, length-append, add-one, arith, le-ltb, lt-ltb}
 use Rattle.std.specs.Prelude.{◌==◌, ◌||◌, if◌then◌else◌, MatchResult, OnOk}
 use Rattle.std.specs.List.{list_any}
 use Rattle.std.specs.Io.KnownBytes.{Appends}
@@ -20,6 +20,7 @@ use Rattle.dir_top.specs.declared.why.LineWhy.TheVariants.{LongLine}
 use Rattle.script_text.specs.Line.{line_of}
 use Rattle.dir_top.specs.Script.{script_line, step_of, line_limit, length_limit}
 use Rattle.dir_top.specs.Running.{Stands, Reads, content_at}
+use Rattle.repl_data.proofs.Sound.{neither}
 
 -- ---- the meaning of a line
 
@@ -125,10 +126,6 @@ is_done whole script old now stands =
     (ap (λ (t : Told (Option State)). t.stop) stands.same, subst (λ (x : List ℕ). Appends old now x) (sym (ap (λ (t : Told (Option State)). t.text) stands.same ∙ append-nil stands.printed)) stands.written)
 
 -- ---- how a script falls into lines
-
-neither : (a b : Bool) → (a || b) ≡ false → (a ≡ false) × (b ≡ false)
-neither true b e = absurd cc
-neither false b e = (refl, e)
 
 abbrev pub HasNoFeed : List ℕ → Type 0
 HasNoFeed line = list_any (λ b. b == 10) line ≡ false

@@ -10,7 +10,7 @@ use Rattle.ber_core.specs.declared.read.Header.{Header}
 use Rattle.ber_core.specs.Element.{IsElement, shortest_length, element}
 use Rattle.ber_core.specs.Number.{IsBytes, integer_of, shortest_integer}
 use Rattle.ber_core.specs.Reading.{header_at}
-use Rattle.ber_core.proofs.Written.{shortest_length-shorter, shortest_integer-shorter}
+use Rattle.ber_core.proofs.Written.{shortest_length-shorter, shortest_integer-shorter, IsBytes-append_left, IsBytes-append_right}
 use Rattle.ber_core.specs.declared.fault.NotLdapWhy.TheVariants as why
 use Rattle.ber_core.specs.Window.{Stop, Fault, Window, Reading, ◌>>=◌, refused, inside, after, both, open_here, open_as, octets, many}
 use Rattle.ber_core.specs.Spelling.{Nothing, Each, none, next}
@@ -28,15 +28,6 @@ pub record Passes (w v : Window) (bytes : List ℕ) : Type 0 where
   pub left : w.left ≡ length front + v.left
   pub at : v.at ≡ w.at + length front
   pub are : Are bytes front
-
-IsBytes-append_left : (xs ys : List ℕ) → IsBytes (xs ++ ys) → IsBytes xs
-IsBytes-append_left [] ys h i = omega arith
-IsBytes-append_left (x ∷ xs) ys h zero = h zero
-IsBytes-append_left (x ∷ xs) ys h (suc i) = IsBytes-append_left xs ys (λ j. h (suc j)) i
-
-IsBytes-append_right : (xs ys : List ℕ) → IsBytes (xs ++ ys) → IsBytes ys
-IsBytes-append_right [] ys h = h
-IsBytes-append_right (x ∷ xs) ys h = IsBytes-append_right xs ys (λ i. h (suc i))
 
 are_both : (a b front others : List ℕ) → Are a front → Are b others → Are (a ++ b) (front ++ others)
 are_both a b front others f g h = λ i. f (IsBytes-append_left front others h) i ++ g (IsBytes-append_right front others h) i

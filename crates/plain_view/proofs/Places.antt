@@ -6,7 +6,7 @@ use Rattle.std.specs.List.{AllByRecursion}
 use Rattle.std.specs.List.Sorted.{IsPartitionedBy}
 use Rattle.std.specs.Ordering.{is_eq, is_lt, ordering_reverse}
 use Rattle.std.specs.declared.cmp.Ordering.{Ordering}
-use Rattle.std.specs.declared.cmp.Ordering.TheVariants.{Less, Equal, Greater}
+use Rattle.std.specs.declared.cmp.Ordering.TheVariants.{Less, Equal}
 use Rattle.repl_data.specs.declared.csn.Uid.{Uid}
 use Rattle.repl_data.specs.Order.{uid_cmp, uid_eq, put_by, by_order}
 use Rattle.repl_data.specs.declared.change.Rdn.{Rdn}
@@ -17,9 +17,7 @@ use Rattle.repl_data.proofs.Sound.{neither}
 use Rattle.plain_view.specs.Growth.{yields, joined_name, joined, renamed, id_of, HasRisingIds, is_among_present}
 use Rattle.repl_data.proofs.Loops.{filter_append}
 use Rattle.repl_data.proofs.KeyPlaces.{is_less}
-
-above : (u v : Uid) → uid_cmp u v ≡ Less → uid_cmp v u ≡ Greater
-above u v h = uid_total.antisymm v u ∙ ap ordering_reverse h
+use Rattle.repl_data.proofs.Known.{above_id}
 
 -- neither below nor equal: above
 is_above : (u v : Uid) → is_lt (uid_cmp u v) ≡ false → uid_eq u v ≡ false → uid_cmp v u ≡ Less
@@ -60,7 +58,7 @@ insert_is x (y ∷ ys) zero b l a out =
 insert_is x (y ∷ ys) (suc n) b l a out =
     let h = neither (uid_eq y.id x.id) (is_among_present ys x.id) out in
     ap (λ r. y ∷ r) (insert_is x ys n (λ i d m. b (suc i) d (omega arith)) (omega arith) (λ d m. a d (omega arith)) h.1)
-    ∙ ap (λ o. by_order o (x ∷ y ∷ ys) (x ∷ ys) (y ∷ put_by id_of uid_cmp x ys)) (sym (above y.id x.id (is_less _ (b 0 y (omega arith)))))
+    ∙ ap (λ o. by_order o (x ∷ y ∷ ys) (x ∷ ys) (y ∷ put_by id_of uid_cmp x ys)) (sym (above_id y.id x.id (is_less _ (b 0 y (omega arith)))))
 
 module _ {X : Type 0} where
   take_drop : (xs : List X) (n : ℕ) → take n xs ++ drop n xs ≡ xs

@@ -1,6 +1,6 @@
 -- Small laws of Booleans, for every crate.
-use Rattle.std.proofs.Common.{◌≡◌, Bool, true, false, refl}
-use Rattle.std.specs.Prelude.{◌&&◌, ◌||◌}
+use Rattle.std.proofs.Common.{◌≡◌, Bool, true, false, refl, sym, ◌∙◌}
+use Rattle.std.specs.Prelude.{◌&&◌, ◌||◌, not}
 
 pub and_true : (a : Bool) → (a && true) ≡ a
 and_true true = refl
@@ -72,3 +72,14 @@ either_turned false false c = refl
 pub cases : {G : Type 0} (b : Bool) → (b ≡ true → G) → (b ≡ false → G) → G
 cases true f g = f refl
 cases false f g = g refl
+
+pub never : {G : Type 0} (b : Bool) → b ≡ true → b ≡ false → G
+never b h g = let e : true ≡ false = sym h ∙ g in cc
+
+pub neither_then : {G : Type 0} (a b : Bool) → (a || b) ≡ false → (a ≡ false → b ≡ false → G) → G
+neither_then true b h f = cc
+neither_then false b h f = f refl h
+
+pub twice : (b : Bool) → not (not b) ≡ b
+twice true = refl
+twice false = refl

@@ -42,7 +42,7 @@ pub all_facts-Rises : (suffix : Suffix) (xs : List Change) → Rises uid_cmp uid
 all_facts-Rises suffix xs = rises_map suffix xs (ids_known xs) (in_order_by-Rises uid_cmp uid_total (λ (u : Uid). u) (suffix_id ∷ added_ids xs))
 
 -- zero is below all others
-no_number_below : (n : ℕ) → nat_cmp n 0 ≡ Less → ⊥
+pub no_number_below : (n : ℕ) → nat_cmp n 0 ≡ Less → ⊥
 no_number_below n h = by_ranked (n < 0) (n ≡ 0) (0 < n) (nat_cmp n 0) (ranks n 0) (λ e l. omega arith) (λ e l. let d : Less ≡ Equal = sym h ∙ e in cc) (λ e l. let d : Less ≡ Greater = sym h ∙ e in cc)
 
 then_less : (a b : Ordering) → ordering_then a b ≡ Less → (a ≡ Less) ⊎ (b ≡ Less)

@@ -29,6 +29,9 @@ own_id u = ap is_eq (tied_itself uid_total u)
 pub same_id : (u v : Uid) → uid_eq u v ≡ true → u ≡ v
 same_id u v h = uid_exact u v (is_equal (uid_cmp u v) h)
 
+pub above_id : (u v : Uid) → uid_cmp u v ≡ Less → uid_cmp v u ≡ Greater
+above_id u v h = uid_total.antisymm v u ∙ ap ordering_reverse h
+
 pub eq_turned : (u v : Uid) → uid_eq u v ≡ uid_eq v u
 eq_turned u v = ap is_eq (uid_total.antisymm u v) ∙ by (uid_cmp v u)
   where

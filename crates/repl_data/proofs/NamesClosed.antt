@@ -37,24 +37,24 @@ use Rattle.repl_data.proofs.CsnTests.{csn_lt-zero}
 -- ---- a sound change gives no name with a part for the id
 
 -- no derived part, no part for the id
-no_id_part : (a : Ava) → is_derived_ava a ≡ false → is_id_part (a.attr.name, a.val.key) ≡ false
+pub no_id_part : (a : Ava) → is_derived_ava a ≡ false → is_id_part (a.attr.name, a.val.key) ≡ false
 unfolding is_derived_attribute
 no_id_part a h = (neither _ _ (neither _ _ h).0).0
 
-no_id : (avas : List Ava) (rest : List Bool) → list_any (λ b. b) (map is_derived_ava avas ++ rest) ≡ false → list_any is_id_part (map (λ (a : Ava). (a.attr.name, a.val.key)) avas) ≡ false
+pub no_id : (avas : List Ava) (rest : List Bool) → list_any (λ b. b) (map is_derived_ava avas ++ rest) ≡ false → list_any is_id_part (map (λ (a : Ava). (a.attr.name, a.val.key)) avas) ≡ false
 no_id [] rest h = refl
 no_id (a ∷ avas) rest h =
     let h' = neither _ _ h in
     either_false _ _ (no_id_part a h'.0) (no_id avas rest h'.1)
 
-none_at : (places : List Bool) → is_none (fault_at Derived places) ≡ true → list_any (λ b. b) places ≡ false
+pub none_at : (places : List Bool) → is_none (fault_at Derived places) ≡ true → list_any (λ b. b) places ≡ false
 none_at places h = not_true _ (sym (any-position 0 places) ∙ by (position_from (λ b. b) 0 places) h)
   where
     by : (o : Option ℕ) → is_none (option_map Derived o) ≡ true → is_none o ≡ true
     by None e = refl
     by (Some k) e = e
 
-sound_names : (c : Change) → is_sound c ≡ true → list_any (λ b. b) (derived_places c.body) ≡ false
+pub sound_names : (c : Change) → is_sound c ≡ true → list_any (λ b. b) (derived_places c.body) ≡ false
 sound_names c h = none_at (derived_places c.body) (no_faults (faults_of_frame c ++ faults_of_body c.body) h).1.1.1.1.1.1.1.1.0
 
 -- what a change says of a name: that it is its own, and has no part for the id

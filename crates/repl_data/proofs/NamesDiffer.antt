@@ -22,7 +22,7 @@ use Rattle.repl_data.proofs.Bools.{or_true}
 abbrev part : Ava → List ℕ × List ℕ
 part a = (a.attr.name, a.val.key)
 
-with_id-any : (u : Uid) (avas : List Ava) → list_any is_id_part (map part (put_by (λ (a : Ava). a.attr.name) bytes_cmp (id_ava u) avas)) ≡ true
+pub with_id-any : (u : Uid) (avas : List Ava) → list_any is_id_part (map part (put_by (λ (a : Ava). a.attr.name) bytes_cmp (id_ava u) avas)) ≡ true
 with_id-any u [] = refl
 with_id-any u (a ∷ avas) = by (bytes_cmp (codes "nsuniqueid") a.attr.name) (with_id-any u avas)
   where

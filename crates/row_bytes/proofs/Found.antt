@@ -11,7 +11,7 @@ use Rattle.ber_core.specs.Element.{IsElement, shortest_length, element}
 use Rattle.ber_core.specs.Number.{IsBytes, drop_needless, shortest_integer}
 use Rattle.ber_core.specs.Reading.{Parts, element_at}
 use Rattle.ber_core.proofs.Laws.{Takes, element_takes}
-use Rattle.ber_core.proofs.Written.{shortest_length-shorter}
+use Rattle.ber_core.proofs.Written.{shortest_length-shorter, IsBytes-append_left, IsBytes-append_right}
 use Rattle.repl_data.specs.declared.change.ModKind.{ModKind}
 use Rattle.repl_data.specs.declared.change.ModKind.TheVariants as mod_kind
 use Rattle.repl_data.specs.Text.{csn_bytes, csn_of}
@@ -62,15 +62,6 @@ abbrev pub SoundInside : {A : Type 0} → (Place → Result A Fault) → (A → 
 SoundInside content f = (p : Place) → IsBytes p.bytes → Good (λ x. p.bytes ≡ f x) (content p)
 
 -- ---- bytes
-
-pub IsBytes-append_left : (xs ys : List ℕ) → IsBytes (xs ++ ys) → IsBytes xs
-IsBytes-append_left [] ys h i = omega arith
-IsBytes-append_left (x ∷ xs) ys h zero = h zero
-IsBytes-append_left (x ∷ xs) ys h (suc i) = IsBytes-append_left xs ys (λ j. h (suc j)) i
-
-pub IsBytes-append_right : (xs ys : List ℕ) → IsBytes (xs ++ ys) → IsBytes ys
-IsBytes-append_right [] ys h = h
-IsBytes-append_right (x ∷ xs) ys h = IsBytes-append_right xs ys (λ i. h (suc i))
 
 pub no_bytes : (xs : List ℕ) → length xs ≡ 0 → xs ≡ []
 no_bytes [] e = refl

@@ -23,6 +23,7 @@ use Rattle.rule_values.specs.Modify.{fits}
 use Rattle.rule_values.proofs.InTurn.{go_on, stop}
 use Rattle.rule_values.proofs.ModSteps.{take_one}
 use Rattle.rule_values.proofs.SetLemmas.{is_other, puts_rising}
+use Rattle.repl_data.proofs.Bools.{either_again}
 
 pub no_vals : (vals : List Val) → is_empty vals ≡ true → vals ≡ []
 no_vals [] h = refl
@@ -51,10 +52,6 @@ swapped true false c = refl
 swapped false true c = refl
 swapped false false c = refl
 
-twice : (a b : Bool) → (a || b) ≡ (a || (a || b))
-twice true b = refl
-twice false b = refl
-
 has_put : (k : List ℕ) (v : Val) (had : List Val) → has_key k (put_val v had) ≡ (bytes_eq v.key k || has_key k had)
 has_put k v [] = refl
 has_put k v (w ∷ had) = by (bytes_cmp v.key w.key) refl (has_put k v had)
@@ -62,7 +59,7 @@ has_put k v (w ∷ had) = by (bytes_cmp v.key w.key) refl (has_put k v had)
     by : (o : Ordering) → bytes_cmp v.key w.key ≡ o → has_key k (put_val v had) ≡ (bytes_eq v.key k || has_key k had)
         → has_key k (by_order o (v ∷ w ∷ had) (v ∷ had) (w ∷ put_val v had)) ≡ (bytes_eq v.key k || (bytes_eq w.key k || has_key k had))
     by Less e more = refl
-    by Equal e more = twice (bytes_eq v.key k) (has_key k had) ∙ ap (λ (x : List ℕ). bytes_eq v.key k || (bytes_eq x k || has_key k had)) (bytes_exact v.key w.key e)
+    by Equal e more = either_again (bytes_eq v.key k) (has_key k had) ∙ ap (λ (x : List ℕ). bytes_eq v.key k || (bytes_eq x k || has_key k had)) (bytes_exact v.key w.key e)
     by Greater e more = ap (λ b. bytes_eq w.key k || b) more ∙ swapped (bytes_eq w.key k) (bytes_eq v.key k) (has_key k had)
 
 any_put : (v : Val) (vals had : List Val) → AreAbove v vals → list_any (λ (w : Val). has_key w.key had) vals ≡ list_any (λ (w : Val). has_key w.key (put_val v had)) vals

@@ -22,24 +22,11 @@ use Rattle.repl_data.proofs.InOrder.{is_equal}
 use Rattle.repl_data.proofs.Steps.{flat_map-append}
 use Rattle.repl_data.proofs.SameView.{stamp_of, from_all, body_acts_from}
 use Rattle.repl_data.proofs.Sound.{sound_rid, sound_order, not_both, neither, not_false, both_true}
-use Rattle.repl_data.proofs.Raised.{latest_or-append, greatest-append}
-use Rattle.repl_data.proofs.OneChange.{attrs_facts-raised, above_zero, acts_above}
+use Rattle.repl_data.proofs.Raised.{latest_or-append}
+use Rattle.repl_data.proofs.OneChange.{attrs_facts-raised, above_zero, acts_above, named_one, dead_one}
 use Rattle.stamp_entry.specs.Raised.{named_after, parent_after, dead_after, facts_after, raised_by, is_add}
 use Rattle.stamp_entry.specs.History.{IsHistory}
 use Rattle.stamp_entry.proofs.Same.{same_raised_by}
-
--- the name and the death
-named_one : (none : Csn × Rdn) (xs : List (Csn × Rdn)) (c : Csn) (b : Body) → csn_cmp none.0 c ≡ Less → latest_or none (xs ++ (names_given c b ++ [])) ≡ named_after c b (latest_or none xs)
-named_one none xs c (Add parent rdn attrs) h = latest_or-append none xs (c, rdn) h
-named_one none xs c (Modify mods) h = ap (latest_or none) (append-nil xs)
-named_one none xs c (Ren rdn dropped) h = latest_or-append none xs (c, rdn) h
-named_one none xs c Del h = ap (latest_or none) (append-nil xs)
-
-dead_one : (xs : List Csn) (c : Csn) (b : Body) → greatest (xs ++ (deaths c b ++ [])) ≡ dead_after c b (greatest xs)
-dead_one xs c (Add parent rdn attrs) = ap greatest (append-nil xs)
-dead_one xs c (Modify mods) = ap greatest (append-nil xs)
-dead_one xs c (Ren rdn dropped) = ap greatest (append-nil xs)
-dead_one xs c Del = greatest-append xs c
 
 -- the parent: all Adds of one entry are one
 later_same : (x : Csn × Uid) → later x x ≡ x

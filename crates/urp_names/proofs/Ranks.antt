@@ -14,7 +14,7 @@ use Rattle.repl_data.specs.Order.{csn_cmp, uid_cmp, uid_eq, by_order}
 use Rattle.repl_data.proofs.Orders.{csn_exact, uid_total, uid_exact, split, put_swap}
 use Rattle.repl_data.proofs.InOrder.{put-Rises, in_order_by-Rises}
 use Rattle.repl_data.proofs.Known.{same_id, eq_turned}
-use Rattle.repl_data.proofs.Bools.{cases}
+use Rattle.repl_data.proofs.Bools.{cases, neither_then}
 use Rattle.urp_names.specs.declared.contenders.Contender.{Contender}
 use Rattle.urp_names.specs.Contending.{Contending, IsOneOf, IsCut, HasRisingIds, id_of, comes_before, first_of, least_of, contends, put_one, without, claim_cmp, rank_cmp, by_rank, is_beaten, IsFront, IsInFront, of_id, place_for, after_put, after_take}
 use Rattle.urp_names.proofs.Cuts.{Pairs, put_in, IsFresh, below, below_first, put_fresh, taken_out, all_put, put_above, rises_kept, filter_put, in_front, front_has, all_front}
@@ -55,17 +55,13 @@ put_rises c cs h = put-Rises uid_cmp uid_total id_of c cs h
 pub left_rises : (u : Uid) (cs : List Contender) → HasRisingIds cs → HasRisingIds (without u cs)
 left_rises u cs h = rises_kept uid_cmp uid_total id_of (λ (c : Contender). not (uid_eq c.id u)) cs h
 
-neither : {G : Type 0} (a b : Bool) → (a || b) ≡ false → (a ≡ false → b ≡ false → G) → G
-neither true b h f = let e : true ≡ false = h in cc
-neither false b h f = f refl h
-
 pub fresh_id : (c : Contender) (cs : List Contender) → contends c.id cs ≡ false → IsFresh uid_cmp uid_total id_of c cs
 fresh_id c [] h = tt
-fresh_id c (d ∷ ds) h = neither (uid_eq d.id c.id) (contends c.id ds) h (λ a b. (eq_turned c.id d.id ∙ a, fresh_id c ds b))
+fresh_id c (d ∷ ds) h = neither_then (uid_eq d.id c.id) (contends c.id ds) h (λ a b. (eq_turned c.id d.id ∙ a, fresh_id c ds b))
 
 pub kept_all : (u : Uid) (cs : List Contender) → contends u cs ≡ false → without u cs ≡ cs
 kept_all u [] h = refl
-kept_all u (c ∷ cs) h = neither (uid_eq c.id u) (contends u cs) h (λ a b. ap (λ t. cond (not t) (c ∷ without u cs) (without u cs)) a ∙ ap (λ xs. c ∷ xs) (kept_all u cs b))
+kept_all u (c ∷ cs) h = neither_then (uid_eq c.id u) (contends u cs) h (λ a b. ap (λ t. cond (not t) (c ∷ without u cs) (without u cs)) a ∙ ap (λ xs. c ∷ xs) (kept_all u cs b))
 
 none_above : (u : Uid) (c : Contender) (cs : List Contender) → uid_cmp u c.id ≡ Less → AllByRecursion (λ (d : Contender). uid_cmp c.id d.id ≡ Less) cs → contends u cs ≡ false
 none_above u c [] h g = refl
@@ -159,7 +155,7 @@ put_instead c (d ∷ ds) r =
 pub rank_put : (c : Contender) (cs : List Contender) → contends c.id cs ≡ false → by_rank (put_one c cs) ≡ put_rank c (by_rank cs)
 rank_put c [] h = refl
 rank_put c (d ∷ ds) h =
-    neither (uid_eq d.id c.id) (contends c.id ds) h (λ a b.
+    neither_then (uid_eq d.id c.id) (contends c.id ds) h (λ a b.
     split (uid_cmp c.id d.id)
     (λ k. ap (λ o. by_rank (by_order o (c ∷ d ∷ ds) (c ∷ ds) (d ∷ put_one c ds))) k)
     (λ k. let f : true ≡ false = sym (eq_turned d.id c.id ∙ ap is_eq k) ∙ a in cc)
@@ -180,7 +176,7 @@ fresh_rank c cs h = all_ranked (λ (d : Contender). is_eq (rank_cmp c d) ≡ fal
 
     all : (cs : List Contender) → contends c.id cs ≡ false → AllByRecursion (λ (d : Contender). is_eq (rank_cmp c d) ≡ false) cs
     all [] h = tt
-    all (d ∷ ds) h = neither (uid_eq d.id c.id) (contends c.id ds) h (λ a b. (behind (claim_cmp c d) (uid_cmp c.id d.id) (eq_turned c.id d.id ∙ a), all ds b))
+    all (d ∷ ds) h = neither_then (uid_eq d.id c.id) (contends c.id ds) h (λ a b. (behind (claim_cmp c d) (uid_cmp c.id d.id) (eq_turned c.id d.id ∙ a), all ds b))
 
 pub rank_without : (u : Uid) (cs : List Contender) → without u (by_rank cs) ≡ by_rank (without u cs)
 rank_without u [] = refl
@@ -347,7 +343,7 @@ front_none u who xs h = each who (nobody_else u who h)
     each (c ∷ cs) k = ((λ n b. never (uid_eq c.id u) k.0 n), each cs k.1)
 
 -- HOW MANY
-fewer : (u : Uid) (cs : List Contender) → length (without u cs) ≤ length cs
+pub fewer : (u : Uid) (cs : List Contender) → length (without u cs) ≤ length cs
 fewer u [] = omega arith
 fewer u (c ∷ cs) = by (not (uid_eq c.id u)) (fewer u cs)
   where
@@ -371,7 +367,7 @@ has_room u cs spare (inr h) = let l = fewer u cs in omega arith
 pub longer : (c : Contender) (cs : List Contender) → contends c.id cs ≡ false → length (put_one c cs) ≡ suc (length cs)
 longer c [] h = refl
 longer c (d ∷ ds) h =
-    neither (uid_eq d.id c.id) (contends c.id ds) h (λ a b.
+    neither_then (uid_eq d.id c.id) (contends c.id ds) h (λ a b.
     split (uid_cmp c.id d.id)
     (λ k. ap (λ o. length (by_order o (c ∷ d ∷ ds) (c ∷ ds) (d ∷ put_one c ds))) k)
     (λ k. let f : true ≡ false = sym (eq_turned d.id c.id ∙ ap is_eq k) ∙ a in cc)

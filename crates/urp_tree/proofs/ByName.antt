@@ -19,17 +19,13 @@ use Rattle.urp_tree.specs.declared.row.Row.{Row}
 use Rattle.urp_tree.specs.Rows.{row_at, facts_in}
 use Rattle.urp_tree.specs.Known.{IsTree, IsPlain}
 use Rattle.urp_tree.specs.Seen.{IsPresentRow, is_sought, present_entry}
-use Rattle.urp_tree.proofs.Fits.{never}
-use Rattle.urp_tree.proofs.Settled.{all_present}
-use Rattle.urp_tree.proofs.Levels.{self_eq}
 use Rattle.urp_tree.proofs.Seen.{at_id, none_here, only_present}
 use Rattle.urp_tree.proofs.Lost.{differs}
 use Rattle.urp_tree.proofs.Holder.{searched}
 use Rattle.urp_tree.proofs.IdNames.{is_id, any_part, find_part, some_found, with_id-find}
-
-decide : {G : Type 0} (b : Bool) → (b ≡ true → G) → (b ≡ false → G) → G
-decide true f g = f refl
-decide false f g = g refl
+use Rattle.repl_data.proofs.Bools.{cases, never}
+use Rattle.repl_data.proofs.Paths.{all_present}
+use Rattle.repl_data.proofs.Known.{own_id}
 
 -- SEARCHES
 find_never : (p : EntryFacts → Bool) (es : List EntryFacts) → AllByRecursion (λ (e : EntryFacts). p e ≡ false) es → find p es ≡ None
@@ -118,16 +114,16 @@ module _ (rows : BTreeMap Uid (Option Row)) (tree : IsTree rows None []) (ordere
   none h = sym (searched present parent rdn suffix facts refl ∙ ap (option_map (λ (e : EntryFacts). e.id)) (find_never sought present h))
 
   pub none_read : IsRead None → None ≡ shown_child (view_of_facts suffix facts) parent rdn
-  none_read read = none (each (λ e plain. decide (sought e) (λ t. let f : ◌≡◌ {A = Option Uid} None (Some e.id) = reads None read e plain t in cc) (λ f. f)) present plains)
+  none_read read = none (each (λ e plain. cases (sought e) (λ t. let f : ◌≡◌ {A = Option Uid} None (Some e.id) = reads None read e plain t in cc) (λ f. f)) present plains)
 
   -- the one with the id that was read
-  own_id : (u : Uid) → IsRead (Some u) → (e : EntryFacts) → IsPlain e → sought e ≡ true → uid_eq e.id u ≡ true
-  own_id u read e plain t = subst (λ (w : Uid). uid_eq e.id w ≡ true) (ap (λ (o : Option Uid). unwrap_or o u) (sym (reads (Some u) read e plain t))) (self_eq e.id)
+  sought_id : (u : Uid) → IsRead (Some u) → (e : EntryFacts) → IsPlain e → sought e ≡ true → uid_eq e.id u ≡ true
+  sought_id u read e plain t = subst (λ (w : Uid). uid_eq e.id w ≡ true) (ap (λ (o : Option Uid). unwrap_or o u) (sym (reads (Some u) read e plain t))) (own_id e.id)
 
   pub none_other : (u : Uid) → IsRead (Some u) → IsPresentRow facts u None → None ≡ shown_child (view_of_facts suffix facts) parent rdn
   none_other u read row =
       none
-      (each {P = λ (e : EntryFacts). IsPlain e × (uid_eq e.id u ≡ false)} (λ e h. decide (sought e) (λ t. never (uid_eq e.id u) (own_id u read e h.0 t) h.1) (λ f. f)) present
+      (each {P = λ (e : EntryFacts). IsPlain e × (uid_eq e.id u ≡ false)} (λ e h. cases (sought e) (λ t. never (uid_eq e.id u) (sought_id u read e h.0 t) h.1) (λ f. f)) present
       (both IsPlain (λ (e : EntryFacts). uid_eq e.id u ≡ false) present plains (none_here u facts row)))
 
   module _ (u : Uid) (read : IsRead (Some u)) (r : Row) (there : row_at rows u ≡ Some r) where
@@ -135,10 +131,10 @@ module _ (rows : BTreeMap Uid (Option Row)) (tree : IsTree rows None []) (ordere
     only = only_present rows tree ordered u r there
 
     alone : AllByRecursion (λ (e : EntryFacts). sought e ≡ true → e ≡ r.entry) present
-    alone = each {P = λ (e : EntryFacts). IsPlain e × (uid_eq e.id u ≡ true → e ≡ r.entry)} (λ e h t. h.1 (own_id u read e h.0 t)) present (both IsPlain (λ (e : EntryFacts). uid_eq e.id u ≡ true → e ≡ r.entry) present plains only)
+    alone = each {P = λ (e : EntryFacts). IsPlain e × (uid_eq e.id u ≡ true → e ≡ r.entry)} (λ e h t. h.1 (sought_id u read e h.0 t)) present (both IsPlain (λ (e : EntryFacts). uid_eq e.id u ≡ true → e ≡ r.entry) present plains only)
 
     pub none_sought : sought r.entry ≡ false → None ≡ shown_child (view_of_facts suffix facts) parent rdn
-    none_sought n = none (each (λ e same. decide (sought e) (λ t. never (sought e) t (ap sought (same t) ∙ n)) (λ f. f)) present alone)
+    none_sought n = none (each (λ e same. cases (sought e) (λ t. never (sought e) t (ap sought (same t) ∙ n)) (λ f. f)) present alone)
 
     pub the_sought : is_among_entries present u ≡ true → r.entry.id ≡ u → sought r.entry ≡ true → Some u ≡ shown_child (view_of_facts suffix facts) parent rdn
     the_sought here id t = sym (searched present parent rdn suffix facts refl ∙ ap (option_map (λ (e : EntryFacts). e.id)) (find_only sought u r.entry present alone here only t) ∙ ap Some id)

@@ -23,17 +23,10 @@ use Rattle.urp_tree.specs.Walk.{step_of, Steps, CanWalk}
 use Rattle.urp_tree.specs.Climb.{count_below, AreTrue, IsApart, AreApart, RoomFor}
 use Rattle.urp_tree.proofs.Ways.{count_less}
 use Rattle.urp_tree.proofs.Walks.{rises_step, indexed_step}
-
-decide : {G : Type 0} (b : Bool) → (b ≡ true → G) → (b ≡ false → G) → G
-decide true f g = f refl
-decide false f g = g refl
-
-either : (a b : Bool) → b ≡ true → (a || b) ≡ true
-either true b h = refl
-either false b h = h
+use Rattle.repl_data.proofs.Bools.{cases, either_second}
 
 -- a child contends for its name
-contends_one : (u : Uid) (rdn : Rdn) (c : Child) (cs : List Child) → IsOneOf c cs → wants u rdn c ≡ true → contends c.id (wanting u rdn cs) ≡ true
+pub contends_one : (u : Uid) (rdn : Rdn) (c : Child) (cs : List Child) → IsOneOf c cs → wants u rdn c ≡ true → contends c.id (wanting u rdn cs) ≡ true
 contends_one u rdn c [] m h = elim m [ ]
 contends_one u rdn c (d ∷ ds) (inl m) h =
     ap (λ t. contends c.id (map contender (cond t (d ∷ filter (wants u rdn) ds) (filter (wants u rdn) ds)))) (ap (wants u rdn) (sym m) ∙ h)
@@ -42,7 +35,7 @@ contends_one u rdn c (d ∷ ds) (inl m) h =
 contends_one u rdn c (d ∷ ds) (inr m) h = by (wants u rdn d) (contends_one u rdn c ds m h)
   where
     by : (t : Bool) → contends c.id (wanting u rdn ds) ≡ true → contends c.id (map contender (cond t (d ∷ filter (wants u rdn) ds) (filter (wants u rdn) ds))) ≡ true
-    by true more = either (uid_eq d.id c.id) (contends c.id (wanting u rdn ds)) more
+    by true more = either_second (uid_eq d.id c.id) (contends c.id (wanting u rdn ds)) more
     by false more = more
 
 above_zero : (a b : ℕ) → a ≡ suc b → 0 < a
@@ -89,7 +82,7 @@ spare_left c rdn (Some r) p h g = subst (HasSpare rdn) (sym h.1) (less_then (spa
 room_left : (c : Child) (t : Step) (rows new : BTreeMap Uid (Option Row)) → Steps (Leave c) rows new → RoomFor rows t → RoomFor new t
 room_left c (Leave d) rows new st room = tt
 room_left c (Enter d) rows new st room =
-    decide (uid_eq c.parent d.parent)
+    cases (uid_eq c.parent d.parent)
     (λ y. let same : c.parent ≡ d.parent = uid_exact c.parent d.parent (is_equal _ y) in
     subst (λ v. HasSpare d.rdn (row_at new v)) same (spare_left c d.rdn (row_at rows c.parent) (row_at new c.parent) st.parent (subst (λ v. HasSpare d.rdn (row_at rows v)) (sym same) room)))
     (λ f. subst (HasSpare d.rdn) (sym (st.others d.parent f)) room)
@@ -123,7 +116,7 @@ spare_kept rdn (Some r) p h g = subst (HasSpare rdn) (sym h.1) (less_then (spare
 pub room_kept : (parent : Uid) (rows new : BTreeMap Uid (Option Row)) → ((u : Uid) → uid_eq parent u ≡ false → row_at new u ≡ row_at rows u) → SeatWidens (row_at rows parent) (row_at new parent) → (t : Step) → RoomFor rows t → RoomFor new t
 room_kept parent rows new others kept (Leave d) room = tt
 room_kept parent rows new others kept (Enter d) room =
-    decide (uid_eq parent d.parent)
+    cases (uid_eq parent d.parent)
     (λ y. let same : parent ≡ d.parent = uid_exact parent d.parent (is_equal _ y) in
     subst (λ v. HasSpare d.rdn (row_at new v)) same (spare_kept d.rdn (row_at rows parent) (row_at new parent) kept (subst (λ v. HasSpare d.rdn (row_at rows v)) (sym same) room)))
     (λ f. subst (HasSpare d.rdn) (sym (others d.parent f)) room)

@@ -16,33 +16,15 @@ use Rattle.urp_tree.specs.Index.{stands_below, is_among_children, put_child, wit
 use Rattle.urp_tree.specs.Walk.{child_of, stepped}
 use Rattle.urp_tree.specs.Known.{put_fact, HasRisingFacts}
 use Rattle.urp_tree.specs.Climb.{count_below, IsChain, leaves, enters, AreTrue, AreApart, AreLone, IsMove, IsBehindLeave, IsWay}
-use Rattle.urp_tree.proofs.Children.{IsBelowAll, put_back, without_fresh}
-use Rattle.urp_tree.proofs.Walks.{stepped_last}
-use Rattle.urp_tree.proofs.Stays.{any_below}
-use Rattle.urp_tree.proofs.Shield.{shown_by, shown_by_live}
+use Rattle.urp_tree.proofs.Children.{put_back, without_fresh, put_lowest}
+use Rattle.urp_tree.proofs.Walks.{stepped_last, rises_without}
+use Rattle.urp_tree.proofs.Stays.{any_below, put_step}
+use Rattle.urp_tree.proofs.Shield.{shown_by, shown_by_live, tail_none}
 use Rattle.urp_tree.proofs.Stays.{Replaces, children_stay}
-use Rattle.urp_tree.proofs.Levels.{held, StandsAt, AllAbove, AllBelow, the_one, id_at, self_put, own_none, lower_none, any_tail, same_shown, any_held, unheld, shown_at, held_shows, goes_up, none_held, is_held, not_held, self_eq, at_above, greater, put_step, all_above_at}
-use Rattle.urp_tree.proofs.Ways.{AreRootsLive, any_swapped, without_put, rises_without, rising_shown, few_shown, few_without, none_among, below_shown, among_without, count_less, count_kept, true_last, apart_last, apart_leaves, below_parent, first_of_chain, swap_less, rises_after, below_after, few, stands, down, up, chain_under, behind_leave, lone_enters}
-
-decide : {G : Type 0} (b : Bool) → (b ≡ true → G) → (b ≡ false → G) → G
-decide true f g = f refl
-decide false f g = g refl
-
-and_no : (a : Bool) → (a && false) ≡ false
-and_no true = refl
-and_no false = refl
-
-and_yes : (a : Bool) → (a && true) ≡ a
-and_yes true = refl
-and_yes false = refl
-
-right_of : (a b : Bool) → (a || b) ≡ false → b ≡ false
-right_of true b h = let e : true ≡ false = h in cc
-right_of false b h = h
-
-put_lowest : (c : Child) (ds : List Child) → IsBelowAll c ds → put_child c ds ≡ c ∷ ds
-put_lowest c [] h = refl
-put_lowest c (d ∷ ds) h = ap (λ o. by_order o (c ∷ d ∷ ds) (c ∷ ds) (d ∷ put_child c ds)) h.0
+use Rattle.urp_tree.proofs.Levels.{held, StandsAt, AllAbove, AllBelow, the_one, id_at, self_put, own_none, lower_none, any_tail, same_shown, any_held, unheld, shown_at, held_shows, goes_up, none_held, is_held, not_held, at_above, greater, all_above_at}
+use Rattle.urp_tree.proofs.Ways.{AreRootsLive, any_swapped, without_put, rising_shown, few_shown, few_without, none_among, below_shown, among_without, count_less, count_kept, true_last, apart_last, apart_leaves, below_parent, first_of_chain, rises_after, below_after, few, stands, down, up, chain_under, behind_leave, lone_enters}
+use Rattle.repl_data.proofs.Bools.{cases, and_false, and_true}
+use Rattle.repl_data.proofs.Known.{above_id, own_id}
 
 -- AN ENTRY THAT SHOWED, with another in its place that is held: the child is swapped
 pub put_held : (e d : EntryFacts) (fs : List EntryFacts) → HasRisingFacts fs → AllBelow fs → StandsAt e.id d fs → e.parent ≡ d.parent → (is_live d || any_below e.id (shown_by is_live fs)) ≡ true
@@ -56,10 +38,10 @@ put_held e d (x ∷ above) r b (inl h) p s =
     let shows : (is_live x || any_below x.id A) ≡ true =
     (λ i. is_live (h.1 i) || any_below (at i) A) ∙ ap (λ t. is_live d || t) (sym (any_tail is_live e.id x above (own_none e.id x b.0 h.0))) ∙ s in
     ap (shown_by (held is_live e.id)) (put_step e x above Equal h.0)
-    ∙ (λ i. cond (is_held is_live e.id e (self_eq e.id) i || any_below e.id (same i)) (child_of e ∷ same i) (same i))
+    ∙ (λ i. cond (is_held is_live e.id e (own_id e.id) i || any_below e.id (same i)) (child_of e ∷ same i) (same i))
     ∙ sym (ap (λ t. put_child (child_of e) (without_child e.id (cond t (child_of x ∷ A) A))) shows
     ∙ ap (λ v. put_child (child_of e) (cond (not (uid_eq v e.id)) (child_of x ∷ without_child e.id A) (without_child e.id A))) at
-    ∙ ap (λ t. put_child (child_of e) (cond (not t) (child_of x ∷ without_child e.id A) (without_child e.id A))) (self_eq e.id)
+    ∙ ap (λ t. put_child (child_of e) (cond (not t) (child_of x ∷ without_child e.id A) (without_child e.id A))) (own_id e.id)
     ∙ ap (put_child (child_of e)) (without_fresh e.id A (none_among is_live e.id above aa))
     ∙ put_lowest (child_of e) A (below_shown is_live e.id above aa))
 put_held e d (x ∷ above) r b (inr h) p s =
@@ -90,43 +72,39 @@ abbrev pub leaves_out : Uid → EntryFacts → Bool
 leaves_out u x = is_live x && not (uid_eq x.id u)
 
 out_other : (u : Uid) (x : EntryFacts) → uid_eq x.id u ≡ false → leaves_out u x ≡ is_live x
-out_other u x h = ap (λ b. is_live x && not b) h ∙ and_yes (is_live x)
+out_other u x h = ap (λ b. is_live x && not b) h ∙ and_true (is_live x)
 
 out_own : (u : Uid) (x : EntryFacts) → uid_eq x.id u ≡ true → leaves_out u x ≡ false
-out_own u x h = ap (λ b. is_live x && not b) h ∙ and_no (is_live x)
+out_own u x h = ap (λ b. is_live x && not b) h ∙ and_false (is_live x)
 
 out_above : (u : Uid) (es : List EntryFacts) → AllAbove u es → shown_by (leaves_out u) es ≡ shown_by is_live es
 out_above u es h = same_shown is_live (leaves_out u) es (by es h)
   where
     by : (es : List EntryFacts) → AllAbove u es → AllByRecursion (λ e. leaves_out u e ≡ is_live e) es
     by [] h = tt
-    by (e ∷ es) h = (out_other u e (ap is_eq (swap_less u e.id h.0)), by es h.1)
+    by (e ∷ es) h = (out_other u e (ap is_eq (above_id u e.id h.0)), by es h.1)
 
 -- none of these is live under this id
 abbrev pub IsDeadAt : Uid → List EntryFacts → Type 0
 IsDeadAt u es = AllByRecursion (λ (x : EntryFacts). uid_eq x.id u ≡ true → is_live x ≡ false) es
 
-tail_none : (u : Uid) (b : Bool) (c : Child) (cs : List Child) → any_below u (cond b (c ∷ cs) cs) ≡ false → any_below u cs ≡ false
-tail_none u true c cs h = right_of (stands_below u c) (any_below u cs) h
-tail_none u false c cs h = h
-
 pub put_out : (e : EntryFacts) (fs : List EntryFacts) → HasRisingFacts fs → IsDeadAt e.id fs → any_below e.id (shown_by is_live fs) ≡ false → shown_by (leaves_out e.id) (put_fact e fs) ≡ shown_by is_live fs
-put_out e [] r a n = ap (λ t. cond (t || false) (child_of e ∷ []) []) (out_own e.id e (self_eq e.id))
+put_out e [] r a n = ap (λ t. cond (t || false) (child_of e ∷ []) []) (out_own e.id e (own_id e.id))
 put_out e (x ∷ above) r a n =
     split (uid_cmp e.id x.id)
     (λ k. let all : AllAbove e.id (x ∷ above) = (k, all_above_at e.id x.id above k r.0) in
     let same : shown_by (leaves_out e.id) (x ∷ above) ≡ shown_by is_live (x ∷ above) = out_above e.id (x ∷ above) all in
     ap (shown_by (leaves_out e.id)) (put_step e x above Less k)
-    ∙ (λ i. cond (out_own e.id e (self_eq e.id) i || any_below e.id (same i)) (child_of e ∷ same i) (same i))
+    ∙ (λ i. cond (out_own e.id e (own_id e.id) i || any_below e.id (same i)) (child_of e ∷ same i) (same i))
     ∙ ap (λ t. cond t (child_of e ∷ shown_by is_live (x ∷ above)) (shown_by is_live (x ∷ above))) n)
     (λ k. let A : List Child = shown_by is_live above in
     let same : shown_by (leaves_out e.id) above ≡ A = out_above e.id above (at_above e.id x above k r.0) in
     let at : x.id ≡ e.id = sym (uid_exact e.id x.id k) in
     let none : any_below e.id A ≡ false = tail_none e.id (is_live x || any_below x.id A) (child_of x) A n in
     ap (shown_by (leaves_out e.id)) (put_step e x above Equal k)
-    ∙ (λ i. cond (out_own e.id e (self_eq e.id) i || any_below e.id (same i)) (child_of e ∷ same i) (same i))
+    ∙ (λ i. cond (out_own e.id e (own_id e.id) i || any_below e.id (same i)) (child_of e ∷ same i) (same i))
     ∙ ap (λ t. cond t (child_of e ∷ A) A) none
-    ∙ sym ((λ i. cond (a.0 (ap (λ v. uid_eq v e.id) at ∙ self_eq e.id) i || any_below (at i) A) (child_of x ∷ A) A) ∙ ap (λ t. cond t (child_of x ∷ A) A) none))
+    ∙ sym ((λ i. cond (a.0 (ap (λ v. uid_eq v e.id) at ∙ own_id e.id) i || any_below (at i) A) (child_of x ∷ A) A) ∙ ap (λ t. cond t (child_of x ∷ A) A) none))
     (λ k. let A : List Child = shown_by is_live above in
     let more : shown_by (leaves_out e.id) (put_fact e above) ≡ A = put_out e above r.1 a.1 (tail_none e.id (is_live x || any_below x.id A) (child_of x) A n) in
     ap (shown_by (leaves_out e.id)) (put_step e x above Greater k)
@@ -175,13 +153,13 @@ module _ (e : EntryFacts) (fs : List EntryFacts) (rises : HasRisingFacts fs) (be
   -- every entry of the id is this one
   is_own : (P : EntryFacts → Type 0) → P e → (es : List EntryFacts) → AllByRecursion (λ (x : EntryFacts). uid_eq x.id e.id ≡ true → x ≡ e) es → ((x : EntryFacts) → uid_eq x.id e.id ≡ false → P x) → AllByRecursion P es
   is_own P p [] h f = tt
-  is_own P p (x ∷ es) h f = (decide (uid_eq x.id e.id) (λ t. subst P (sym (h.0 t)) p) (λ n. f x n), is_own P p es h.1 f)
+  is_own P p (x ∷ es) h f = (cases (uid_eq x.id e.id) (λ t. subst P (sym (h.0 t)) p) (λ n. f x n), is_own P p es h.1 f)
 
   -- a dead entry without present children
   pub rest_way : is_live e ≡ false → IsDeadAt e.id fs → any_below e.id here ≡ false → IsWay (suc (length fs)) fs e []
   rest_way dead gone none =
       by_way [] (sym (put_out e fs rises gone none)
-      ∙ sym (same_shown (leaves_out e.id) is_live there (is_own (λ x. is_live x ≡ leaves_out e.id x) (dead ∙ sym (out_own e.id e (self_eq e.id))) there (the_one e.id e there ups own_place) (λ x n. sym (out_other e.id x n))))) tt tt (inl tt)
+      ∙ sym (same_shown (leaves_out e.id) is_live there (is_own (λ x. is_live x ≡ leaves_out e.id x) (dead ∙ sym (out_own e.id e (own_id e.id))) there (the_one e.id e there ups own_place) (λ x n. sym (out_other e.id x n))))) tt tt (inl tt)
 
   -- it showed before
   module _ (d : EntryFacts) (at : StandsAt e.id d fs) (parent : e.parent ≡ d.parent) (was : (is_live d || any_below e.id here) ≡ true) (child : uid_eq e.id suffix_id ≡ false) where
@@ -234,7 +212,7 @@ module _ (e : EntryFacts) (fs : List EntryFacts) (rises : HasRisingFacts fs) (be
         let more =
         down e fs rises below roots own here q chain lower is_chain
         (count_less q (child_of d) here rising member (subst (λ v. stands_below v (child_of d) ≡ true) (sym parent) old_below) ∙ ap (λ ds. suc (count_below q ds)) stage)
-        (λ x k. count_kept x (child_of d) here rising member (ap (λ v. uid_eq v x && not (uid_eq d.id suffix_id)) (sym parent) ∙ ap (λ o. is_eq o && not (uid_eq d.id suffix_id)) (swap_less x q k)) ∙ ap (count_below x) stage) in
+        (λ x k. count_kept x (child_of d) here rising member (ap (λ v. uid_eq v x && not (uid_eq d.id suffix_id)) (sym parent) ∙ ap (λ o. is_eq o && not (uid_eq d.id suffix_id)) (above_id x q k)) ∙ ap (count_below x) stage) in
         by_way (Leave (child_of d) ∷ leaves chain)
         (ap (stepped (leaves chain)) stage ∙ more.1)
         ((member, old_below), few_here, subst (λ ds. AreTrue (suc (length fs)) ds (leaves chain)) (sym stage) more.0)
@@ -252,11 +230,11 @@ module _ (e : EntryFacts) (fs : List EntryFacts) (rises : HasRisingFacts fs) (be
       let was : shown_by L there ≡ here = put_out e fs rises gone none in
       let more = up e fs rises below roots own here q chain lower was is_chain in
       let next : shown_by (held L q) there ≡ without_child e.id S =
-      goes_up L e.id q e g.0 there ups lows own_place refl (stands e fs rises below roots own q g.0 lower g.1).1 lower (below_parent e child) (out_own e.id e (self_eq e.id))
+      goes_up L e.id q e g.0 there ups lows own_place refl (stands e fs rises below roots own q g.0 lower g.1).1 lower (below_parent e child) (out_own e.id e (own_id e.id))
       (any_held L e.id e there ups lows own_place ∙ ap (any_below e.id) was ∙ none) in
       let all : shown_by is_live there ≡ S =
       same_shown (held L e.id) is_live there
-      (is_own (λ x. is_live x ≡ held L e.id x) (live ∙ sym (is_held L e.id e (self_eq e.id))) there (the_one e.id e there ups own_place) (λ x n. sym (not_held L e.id x n ∙ out_other e.id x n))) in
+      (is_own (λ x. is_live x ≡ held L e.id x) (live ∙ sym (is_held L e.id e (own_id e.id))) there (the_one e.id e there ups own_place) (λ x n. sym (not_held L e.id x n ∙ out_other e.id x n))) in
       let stage : stepped (enters chain) here ≡ without_child e.id S = more.1 ∙ next in
       by_way (enters chain ++ Enter (child_of e) ∷ [])
       (stepped_last (enters chain) (Enter (child_of e)) here ∙ ap (put_child (child_of e)) stage

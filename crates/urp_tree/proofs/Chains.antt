@@ -21,14 +21,7 @@ use Rattle.urp_tree.specs.Known.{IsTree, IsLiveRoot}
 use Rattle.urp_tree.specs.Climb.{count_below, IsFound, IsChain, IsWeakAt, IsStrongAt, leaves, enters}
 use Rattle.urp_tree.proofs.Levels.{StandsAt, all_at}
 use Rattle.urp_tree.proofs.Fits.{row_found, row_stands, row_there, row_id}
-
-decide : {G : Type 0} (b : Bool) → (b ≡ true → G) → (b ≡ false → G) → G
-decide true f g = f refl
-decide false f g = g refl
-
-either : (a b : Bool) → b ≡ true → (a || b) ≡ true
-either true b h = refl
-either false b h = h
+use Rattle.repl_data.proofs.Bools.{cases}
 
 -- how many entries have a lower id
 abbrev pub lower_count : Uid → List EntryFacts → ℕ
@@ -67,7 +60,7 @@ one_counted false false e es fs f g h = let x : false ≡ true = g in cc
 pub lower_lt : (p u : Uid) → uid_cmp p u ≡ Less → (es : List EntryFacts) → is_among_entries es p ≡ true → lower_count p es < lower_count u es
 lower_lt p u l [] h = let x : false ≡ true = h in cc
 lower_lt p u l (e ∷ es) h =
-    decide (uid_eq e.id p)
+    cases (uid_eq e.id p)
     (λ t. let same : e.id ≡ p = uid_exact e.id p (is_equal _ t) in
     one_counted (is_lt (uid_cmp e.id p)) (is_lt (uid_cmp e.id u)) e _ _ (ap is_lt (is_equal (uid_cmp e.id p) t)) (ap is_lt (ap (λ v. uid_cmp v u) same ∙ l)) (lower_le p u l es))
     (λ n. more_counted (is_lt (uid_cmp e.id p)) (is_lt (uid_cmp e.id u)) e _ _ (λ t. ap is_lt (uid_total.trans e.id p u (is_less e.id p t) l)) (lower_lt p u l es (sym (ap (λ b. b || is_among_entries es p) n) ∙ h)))

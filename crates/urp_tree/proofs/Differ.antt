@@ -17,7 +17,7 @@ use Rattle.repl_data.specs.Presence.{is_live, is_child, present_of, gone_of, is_
 use Rattle.repl_data.specs.Names.{has_name, has_id, with_id, shown_rdn}
 use Rattle.repl_data.specs.View.{DirectoryView, PresentEntry, Tombstone, view_of_facts, present_at, gone_at, first_of_two, name_of, user}
 use Rattle.repl_data.proofs.Orders.{uid_exact, uid_total, split}
-use Rattle.repl_data.proofs.InOrder.{is_equal, put-Rises}
+use Rattle.repl_data.proofs.InOrder.{put-Rises}
 use Rattle.repl_data.proofs.PresenceLaws.{present_of-rule}
 use Rattle.urp_tree.specs.declared.row.Row.{Row}
 use Rattle.urp_tree.specs.declared.changed.Changed.{Changed}
@@ -31,22 +31,15 @@ use Rattle.urp_tree.specs.Seen.{present_entry, tombstone}
 use Rattle.urp_tree.specs.Placed.{at_child, loses_in, place_in, same_bool, same_place, ArePlaces, KeepsPlaces, LeavesRest}
 use Rattle.urp_tree.specs.Changes.{shown_at, glue_at, parent_at, values_at, IsSame, Differs, IsTold, is_listed, HasRisingChanges, AreChanges, shown_with, before_of, changed_as, changes_in, changes_at, changes_of}
 use Rattle.urp_tree.specs.Moves.{kept as kept_attr, told_present, told_gone, HasRisingPresent, HasRisingGone, StandsAs, StaysAs, IsViewMove, empty_view, told_seat}
-use Rattle.urp_tree.proofs.Settled.{all_present, all_put, among_put, rising_children}
-use Rattle.urp_tree.proofs.Levels.{the_one, self_put, self_eq, StandsAt}
+use Rattle.urp_tree.proofs.Settled.{all_put, among_put, rising_children}
+use Rattle.urp_tree.proofs.Levels.{the_one, self_put, StandsAt}
 use Rattle.urp_tree.proofs.Fits.{no_row, row_id, row_among}
 use Rattle.urp_tree.proofs.Seen.{IsOnly, at_id, find_map, found_only, found_none, only_filter, not_chosen, fewer, fewer_present, only, kept}
 use Rattle.urp_tree.proofs.Lost.{root_has, has_with_id}
 use Rattle.urp_tree.proofs.Placed.{place_present, place_absent, none_among}
-
-decide : {G : Type 0} (b : Bool) → (b ≡ true → G) → (b ≡ false → G) → G
-decide true f g = f refl
-decide false f g = g refl
-
-never : {G : Type 0} (b : Bool) → b ≡ true → b ≡ false → G
-never b t f = let e : true ≡ false = sym t ∙ f in cc
-
-same_id : (u v : Uid) → uid_eq u v ≡ true → u ≡ v
-same_id u v h = uid_exact u v (is_equal (uid_cmp u v) h)
+use Rattle.repl_data.proofs.Bools.{cases, never}
+use Rattle.repl_data.proofs.Known.{same_id, own_id}
+use Rattle.repl_data.proofs.Paths.{all_present}
 
 turned : {X : Type 0} (b : Bool) (x y : X) → cond b x y ≡ cond (not b) y x
 turned true x y = refl
@@ -78,7 +71,7 @@ at_only Q u f (d ∷ es) q o h = by (uid_eq d.id u) refl h (at_only Q u f es q.1
 
 among_at : (u : Uid) (f : EntryFacts) (es : List EntryFacts) → StandsAt u f es → is_among_entries es u ≡ true
 among_at u f [] h = elim h [ ]
-among_at u f (d ∷ es) (inl h) = ap (λ b. b || is_among_entries es u) (ap (λ v. uid_eq v u) (sym (uid_exact u d.id h.0)) ∙ self_eq u)
+among_at u f (d ∷ es) (inl h) = ap (λ b. b || is_among_entries es u) (ap (λ v. uid_eq v u) (sym (uid_exact u d.id h.0)) ∙ own_id u)
 among_at u f (d ∷ es) (inr h) = later (uid_eq d.id u) (is_among_entries es u) (among_at u f es h.1)
   where
     later : (a b : Bool) → b ≡ true → (a || b) ≡ true
@@ -323,7 +316,7 @@ in_later k u p q es above h =
 all_entries : (Q : Uid × Option Bool → Type 0) (es : List (Uid × Option Bool)) → IsStrictlySortedBy uid_cmp (keys_of es) → ((k : Uid) (p : Option Bool) → lookup (is_at (uid_cmp k)) es ≡ Some p → Q (k, p)) → AllByRecursion Q es
 all_entries Q [] o f = tt
 all_entries Q ((k, q) ∷ es) o f = (
-  f k q (ap (λ b. cond b (Some q) (lookup (is_at (uid_cmp k)) es)) (self_eq k)),
+  f k q (ap (λ b. cond b (Some q) (lookup (is_at (uid_cmp k)) es)) (own_id k)),
   all_entries Q es (sorted_tail uid_cmp k (keys_of es) o) (λ u p h. f u p (in_later k u p q es (sorted_head uid_cmp k (keys_of es) o) h)),
 )
 
@@ -359,7 +352,7 @@ module _ (rows : BTreeMap Uid (Option Row)) (tree : IsTree rows None []) (ordere
   own_among = among_at e.id e fs (self_put e es)
 
   other : (u : Uid) → uid_eq u e.id ≡ false → uid_eq e.id u ≡ false
-  other u n = decide (uid_eq e.id u) (λ t. never (uid_eq u e.id) (ap (λ v. uid_eq v e.id) (sym (same_id e.id u t)) ∙ self_eq e.id) n) (λ f. f)
+  other u n = cases (uid_eq e.id u) (λ t. never (uid_eq u e.id) (ap (λ v. uid_eq v e.id) (sym (same_id e.id u t)) ∙ own_id e.id) n) (λ f. f)
 
   module _ (u : Uid) (r : Row) (there : row_at rows u ≡ Some r) (n : uid_eq u e.id ≡ false) where
     only_es : IsOnly u r.entry es
@@ -407,7 +400,7 @@ module _ (rows : BTreeMap Uid (Option Row)) (tree : IsTree rows None []) (ordere
     place_of u r there n s =
         let f : EntryFacts = r.entry in
         let id : f.id ≡ u = row_id rows tree ordered u r there in
-        decide (uid_eq u suffix_id)
+        cases (uid_eq u suffix_id)
         (λ t. root_same u r there n t)
         (λ t. other_place f ((kept rows tree ordered u r there).plain.child (ap (λ x. uid_eq x suffix_id) id ∙ t)) (before u) (after u)
         (sym (shown_is es u f (only_es u r there n) (row_among rows tree ordered u r there) id suffix) ∙ s.shown ∙ shown_is fs u f (only_fs u r there n) (among_fs u r there n) id suffix))
@@ -516,7 +509,7 @@ module _ (rows : BTreeMap Uid (Option Row)) (tree : IsTree rows None []) (ordere
     IsRight u cs = (is_listed u cs ≡ true) ↔ ((u ≡ e.id) ⊎ Differs v w u)
 
     not_it : {G : Type 0} (u : Uid) → uid_eq u e.id ≡ false → u ≡ e.id → G
-    not_it u n h = never (uid_eq u e.id) (ap (λ x. uid_eq x e.id) h ∙ self_eq e.id) n
+    not_it u n h = never (uid_eq u e.id) (ap (λ x. uid_eq x e.id) h ∙ own_id e.id) n
 
     nothing : (u : Uid) → uid_eq u e.id ≡ false → IsSame v w u → IsRight u []
     nothing u n s = ((λ h. let f : false ≡ true = h in cc), to)
@@ -532,7 +525,7 @@ module _ (rows : BTreeMap Uid (Option Row)) (tree : IsTree rows None []) (ordere
         deeper n d None k = nothing u n (unknown u k n)
         deeper n d (Some r) k = (
           (λ y. inr (λ s. never (same_place (before u) p) (ap (same_place (before u)) (h ∙ sym (place_of u r k n s)) ∙ itself (before u)) d)),
-          (λ y. ap (λ b. b || false) (self_eq u)),
+          (λ y. ap (λ b. b || false) (own_id u)),
         )
 
         stays : uid_eq u e.id ≡ false → before u ≡ after u → (o : Option Row) → row_at rows u ≡ o → IsRight u []
@@ -544,7 +537,7 @@ module _ (rows : BTreeMap Uid (Option Row)) (tree : IsTree rows None []) (ordere
         second n false k = deeper n k (row_at rows u) refl
 
         by : (b : Bool) → uid_eq u e.id ≡ b → IsRight u (cond b (changed_as rows new u (before u) p ∷ []) (cond (same_place (before u) p) [] (changes_in rows (row_at rows u) u (before u) p)))
-        by true k = ((λ y. inl (same_id u e.id k)), (λ y. ap (λ b. b || false) (self_eq u)))
+        by true k = ((λ y. inl (same_id u e.id k)), (λ y. ap (λ b. b || false) (own_id u)))
         by false k = second k (same_place (before u) p) refl
 
     -- an id among changes of others
@@ -605,7 +598,7 @@ module _ (rows : BTreeMap Uid (Option Row)) (tree : IsTree rows None []) (ordere
         (rest : (u : Uid) → uid_eq u e.id ≡ false → uid_eq u suffix_id ≡ false → get uid_cmp places u ≡ None → before u ≡ after u) (own : is_some (get uid_cmp places e.id) ≡ true) where
       unlisted : (u : Uid) → get uid_cmp places u ≡ None → uid_eq u e.id ≡ false → (o : Option Row) → row_at rows u ≡ o → IsSame v w u
       unlisted u none n None h = unknown u h n
-      unlisted u none n (Some r) h = same_of u r h n (decide (uid_eq u suffix_id) (λ t. root_same u r h n t) (λ f. rest u n f none))
+      unlisted u none n (Some r) h = same_of u r h n (cases (uid_eq u suffix_id) (λ t. root_same u r h n t) (λ f. rest u n f none))
 
       exact : (u : Uid) → IsRight u (changes_all places.entries)
       exact u = by (get uid_cmp places u) refl
@@ -615,7 +608,7 @@ module _ (rows : BTreeMap Uid (Option Row)) (tree : IsTree rows None []) (ordere
 
           by : (o : Option (Option Bool)) → get uid_cmp places u ≡ o → IsRight u (changes_all places.entries)
           by None h =
-              decide (uid_eq u e.id)
+              cases (uid_eq u e.id)
               (λ t. never (is_some (get uid_cmp places u)) (subst (λ x. is_some (get uid_cmp places x) ≡ true) (sym (same_id u e.id t)) own) (ap is_some h))
               (λ n. let r = nothing u n (unlisted u h n (row_at rows u) refl) in
               ((λ y. r.0 (sym (said None h) ∙ y)), (λ y. said None h ∙ r.1 y)))
@@ -635,14 +628,14 @@ module _ (rows : BTreeMap Uid (Option Row)) (tree : IsTree rows None []) (ordere
         where
           none : (u : Uid) → get uid_cmp places u ≡ None → uid_eq u e.id ≡ false → (o : Option Row) → row_at rows u ≡ o → StaysAs v w u
           none u h n None k = stays_away u k n
-          none u h n (Some r) k = stays_of u r k n (decide (uid_eq u suffix_id) (λ t. root_same u r k n t) (λ f. rest u n f h))
+          none u h n (Some r) k = stays_of u r k n (cases (uid_eq u suffix_id) (λ t. root_same u r k n t) (λ f. rest u n f h))
 
           some : (p : Option Bool) → p ≡ after u → is_listed u (changes_of rows new (u, p)) ≡ false → StaysAs v w u
           some p h l = first (uid_eq u e.id) refl l
             where
               deeper : uid_eq u e.id ≡ false → (o : Option Row) → row_at rows u ≡ o → is_listed u (changes_in rows o u (before u) p) ≡ false → StaysAs v w u
               deeper n None k g = stays_away u k n
-              deeper n (Some r) k g = never (is_listed u (changes_in rows (Some r) u (before u) p)) (ap (λ b. b || false) (self_eq u)) g
+              deeper n (Some r) k g = never (is_listed u (changes_in rows (Some r) u (before u) p)) (ap (λ b. b || false) (own_id u)) g
 
               stay : uid_eq u e.id ≡ false → before u ≡ after u → (o : Option Row) → row_at rows u ≡ o → StaysAs v w u
               stay n s None k = stays_away u k n
@@ -653,12 +646,12 @@ module _ (rows : BTreeMap Uid (Option Row)) (tree : IsTree rows None []) (ordere
               second n false k g = deeper n (row_at rows u) refl g
 
               first : (b : Bool) → uid_eq u e.id ≡ b → is_listed u (cond b (changed_as rows new u (before u) p ∷ []) (cond (same_place (before u) p) [] (changes_in rows (row_at rows u) u (before u) p))) ≡ false → StaysAs v w u
-              first true k g = never (is_listed u (changed_as rows new u (before u) p ∷ [])) (ap (λ b. b || false) (self_eq u)) g
+              first true k g = never (is_listed u (changed_as rows new u (before u) p ∷ [])) (ap (λ b. b || false) (own_id u)) g
               first false k g = second k (same_place (before u) p) refl g
 
           by : (o : Option (Option Bool)) → get uid_cmp places u ≡ o → is_listed u (changes_all places.entries) ≡ false → StaysAs v w u
           by None h l =
-              decide (uid_eq u e.id)
+              cases (uid_eq u e.id)
               (λ t. never (is_some (get uid_cmp places u)) (subst (λ x. is_some (get uid_cmp places x) ≡ true) (sym (same_id u e.id t)) own) (ap is_some h))
               (λ n. none u h n (row_at rows u) refl)
           by (Some p) h l = some p (told u p h) (sym (listed_at u places.entries sorted ∙ ap (picked u) h) ∙ l)
@@ -715,7 +708,7 @@ module _ (rows : BTreeMap Uid (Option Row)) (tree : IsTree rows None []) (ordere
   seats_stand [] o f = tt
   seats_stand ((k, seat) ∷ xs) o f =
       all_both (StandsAs (view_of_facts suffix whole)) (told_seat rows (k, seat)) (flat_map (told_seat rows) xs)
-      (by seat (f k seat (ap (λ b. cond b (Some seat) (lookup (is_at (uid_cmp k)) xs)) (self_eq k))))
+      (by seat (f k seat (ap (λ b. cond b (Some seat) (lookup (is_at (uid_cmp k)) xs)) (own_id k))))
       (seats_stand xs (sorted_tail uid_cmp k (keys_of xs) o) (λ u p h. f u p (seat_later u p h)))
     where
       by : (s : Option Row) → row_at rows k ≡ s → AllByRecursion (StandsAs (view_of_facts suffix whole)) (changes_in rows s k None (place_in (children_in rows) k))
@@ -743,7 +736,7 @@ module _ (rows : BTreeMap Uid (Option Row)) (tree : IsTree rows None []) (ordere
 
       here : (s : Option Row) → Some s ≡ Some (Some r) → u ≡ k → (is_listed u (changes_in rows s k None (place_in (children_in rows) k)) || is_listed u (flat_map (told_seat rows) xs)) ≡ true
       here None e is = let g : ◌≡◌ {A = Option Row} None (Some r) = (let q : Some None ≡ Some (Some r) = e in cc) in cc
-      here (Some t) e is = ap (λ b. (b || false) || is_listed u (flat_map (told_seat rows) xs)) (ap (λ w. uid_eq w u) (sym is) ∙ self_eq u)
+      here (Some t) e is = ap (λ b. (b || false) || is_listed u (flat_map (told_seat rows) xs)) (ap (λ w. uid_eq w u) (sym is) ∙ own_id u)
 
       by : (b : Bool) → is_eq (uid_cmp u k) ≡ b → cond b (Some seat) (lookup (is_at (uid_cmp u)) xs) ≡ Some (Some r) → (lookup (is_at (uid_cmp u)) xs ≡ Some (Some r) → is_listed u (flat_map (told_seat rows) xs) ≡ true) → (is_listed u (told_seat rows (k, seat)) || is_listed u (flat_map (told_seat rows) xs)) ≡ true
       by true e g more = here seat g (same_id u k e)

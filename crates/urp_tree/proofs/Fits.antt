@@ -16,16 +16,15 @@ use Rattle.repl_data.specs.declared.change.Body.{Body}
 use Rattle.repl_data.specs.declared.change.Body.TheVariants.{Add, Mod as Modify, Ren, Del}
 use Rattle.repl_data.specs.declared.change.Change.{Change}
 use Rattle.repl_data.specs.declared.change.Suffix.{Suffix}
-use Rattle.repl_data.specs.declared.change.Malformed.TheVariants.{Root}
 use Rattle.repl_data.specs.Order.{csn_cmp, csn_lt, csn_eq, uid_cmp, uid_eq, suffix_id, zero_csn}
-use Rattle.repl_data.specs.Check.{is_of_root, is_out_of_order, faults_of_frame, faults_of_body}
+use Rattle.repl_data.specs.Check.{is_of_root, is_out_of_order}
 use Rattle.repl_data.specs.Closed.{is_sound, needed}
 use Rattle.repl_data.specs.Facts.{EntryFacts, own_facts}
 use Rattle.repl_data.specs.Presence.{is_live, present_of, is_among_entries, HasParentBelow}
 use Rattle.repl_data.proofs.Orders.{uid_total, uid_exact, csn_total, csn_exact, split}
 use Rattle.repl_data.proofs.InOrder.{is_equal}
 use Rattle.repl_data.proofs.ClosedLaws.{zero_least}
-use Rattle.repl_data.proofs.Sound.{no_fault, no_faults, sound_order, neither, not_false}
+use Rattle.repl_data.proofs.Sound.{sound_order, neither, not_false, sound_root}
 use Rattle.stamp_entry.specs.Raised.{facts_after, is_add, parent_after}
 use Rattle.stamp_entry.proofs.Next.{own_facts-next}
 use Rattle.urp_tree.specs.declared.child.Child.{Child}
@@ -37,24 +36,15 @@ use Rattle.urp_tree.specs.Rows.{row_at, taken, fact_of, facts_in, IsKeyed, AreKe
 use Rattle.urp_tree.specs.Walk.{child_of, children_of_facts, children_in}
 use Rattle.urp_tree.specs.Known.{fact_at, entry_after, IsTree, IsLiveRoot}
 use Rattle.urp_tree.specs.Climb.{count_below, IsFound, IsChain, IsWay, GoesBy, ComesBy, Shows, Hides, is_modify}
-use Rattle.urp_tree.proofs.Settled.{row_fact, others_none, children_none, all_present, here_or_later, not_among, above, keys_above, all_above_fresh}
+use Rattle.urp_tree.proofs.Settled.{row_fact, others_none, children_none, here_or_later, not_among, above, keys_above, all_above_fresh}
 use Rattle.urp_tree.proofs.Ready.{parent_add, below_add, is_live_add}
 use Rattle.urp_tree.proofs.Stays.{any_below}
 use Rattle.urp_tree.proofs.Shield.{shown_by, shown_by_live}
 use Rattle.urp_tree.proofs.Levels.{StandsAt, the_one, id_at, all_at, found_at}
 use Rattle.urp_tree.proofs.Ways.{zero_any, some_any}
 use Rattle.urp_tree.proofs.Cases.{IsDeadAt, same_way, rest_way, move_way, leave_way, enter_way}
-
-decide : {G : Type 0} (b : Bool) → (b ≡ true → G) → (b ≡ false → G) → G
-decide true f g = f refl
-decide false f g = g refl
-
-either : (a b : Bool) → b ≡ true → (a || b) ≡ true
-either true b h = refl
-either false b h = h
-
-pub never : {G : Type 0} (b : Bool) → b ≡ true → b ≡ false → G
-never b t f = let e : true ≡ false = sym t ∙ f in cc
+use Rattle.repl_data.proofs.Bools.{cases, either_second, never, twice}
+use Rattle.repl_data.proofs.Paths.{all_present}
 
 abbrev pub no_suffix : Suffix
 no_suffix = record { name = []; rdn = record { avas = [] } }
@@ -111,7 +101,7 @@ module _ (rows : BTreeMap Uid (Option Row)) (tree : IsTree rows None []) (ordere
   among_at : (u : Uid) (f : EntryFacts) (es : List EntryFacts) → StandsAt u f es → is_among_entries es u ≡ true
   among_at u f [] h = elim h [ ]
   among_at u f (d ∷ es) (inl h) = ap (λ b. b || is_among_entries es u) (ap (λ v. uid_eq v u) (sym (uid_exact u d.id h.0)) ∙ ap is_eq (tied_itself uid_total u))
-  among_at u f (d ∷ es) (inr h) = either (uid_eq d.id u) (is_among_entries es u) (among_at u f es h.1)
+  among_at u f (d ∷ es) (inr h) = either_second (uid_eq d.id u) (is_among_entries es u) (among_at u f es h.1)
 
   pub row_among : (u : Uid) (r : Row) → row_at rows u ≡ Some r → is_among_entries facts u ≡ true
   row_among u r h = among_at u r.entry facts (row_stands u r h)
@@ -125,7 +115,7 @@ module _ (rows : BTreeMap Uid (Option Row)) (tree : IsTree rows None []) (ordere
   not_found u (d ∷ es) h = by (uid_eq d.id u) refl h (not_found u es)
     where
       turned : (a b : Uid) → uid_eq b a ≡ false → uid_eq a b ≡ false
-      turned a b e = decide (uid_eq a b) (λ t. never (uid_eq b a) (ap is_eq (uid_total.antisymm b a ∙ ap ordering_reverse (is_equal (uid_cmp a b) t))) e) (λ f. f)
+      turned a b e = cases (uid_eq a b) (λ t. never (uid_eq b a) (ap is_eq (uid_total.antisymm b a ∙ ap ordering_reverse (is_equal (uid_cmp a b) t))) e) (λ f. f)
 
       by : (b : Bool) → uid_eq d.id u ≡ b → (b || is_among_entries es u) ≡ false → (is_among_entries es u ≡ false → find (λ (x : EntryFacts). uid_eq u x.id) es ≡ None)
           → cond (uid_eq u d.id) (Some d) (find (λ (x : EntryFacts). uid_eq u x.id) es) ≡ None
@@ -151,7 +141,7 @@ module _ (rows : BTreeMap Uid (Option Row)) (tree : IsTree rows None []) (ordere
 
     shows : (d : EntryFacts) → Shows d r.children → (is_live d || any_below e.id fs) ≡ true
     shows d (inl h) = ap (λ b. b || any_below e.id fs) h
-    shows d (inr h) = either (is_live d) (any_below e.id fs) (some_any e.id fs (λ z. let k : r.children ≡ 0 = count ∙ z in omega (arith, k, h)))
+    shows d (inr h) = either_second (is_live d) (any_below e.id fs) (some_any e.id fs (λ z. let k : r.children ≡ 0 = count ∙ z in omega (arith, k, h)))
 
     none : r.children ≡ 0 → any_below e.id fs ≡ false
     none h = zero_any e.id fs (sym count ∙ h)
@@ -219,11 +209,9 @@ module _ (rows : BTreeMap Uid (Option Row)) (tree : IsTree rows None []) (ordere
       dead (x ∷ es) h = let both = neither (uid_eq x.id e.id) (is_among_entries es e.id) h in ((λ t. never (uid_eq x.id e.id) t both.0), dead es both.1)
 
 -- A SOUND CHANGE
-sound_root : (c : Change) → is_sound c ≡ true → is_of_root c.target c.body ≡ false
-sound_root c h = no_fault (is_of_root c.target c.body) Root (no_faults (faults_of_frame c ++ faults_of_body c.body) h).1.1.1.0
 
 pub not_root_add : (c : Csn) (u : Uid) (b : Body) → is_out_of_order c u b ≡ false → is_add b ≡ true → uid_eq u suffix_id ≡ false
-not_root_add c u (Add parent rdn attrs) o h = decide (uid_eq u suffix_id) is_root (λ f. f)
+not_root_add c u (Add parent rdn attrs) o h = cases (uid_eq u suffix_id) is_root (λ f. f)
   where
     low : csn_cmp parent.csn c ≡ Less
     low = is_less (csn_cmp parent.csn c) (not_false (csn_lt parent.csn c) (neither (not (csn_eq u.csn c)) (not (csn_lt parent.csn c)) o).1)
@@ -254,7 +242,7 @@ not_root_other u Del o m a = o
 
 pub not_root : (c : Change) → is_sound c ≡ true → is_modify c.body ≡ false → uid_eq c.target suffix_id ≡ false
 not_root c s m =
-    decide (is_add c.body)
+    cases (is_add c.body)
     (λ t. not_root_add c.csn c.target c.body (sound_order c s) t)
     (λ f. not_root_other c.target c.body (sound_root c s) m f)
 
@@ -293,10 +281,6 @@ same_below : (e d : EntryFacts) → e.id ≡ d.id → e.parent ≡ d.parent → 
 same_below e d i p (inl h) = inl (ap (λ u. uid_eq u suffix_id) i ∙ h)
 same_below e d i p (inr h) = inr ((λ j. uid_cmp (p j) (i j)) ∙ h)
 
-twice : (a : Bool) → not (not a) ≡ a
-twice true = refl
-twice false = refl
-
 module _ (rows : BTreeMap Uid (Option Row)) (tree : IsTree rows None []) (ordered : HasOrderedKeys uid_cmp rows) (c : Change) (sound : is_sound c ≡ true)
     (known : is_among_entries (facts_in rows.entries) (needed c.target c.body) ≡ true) (new : is_add c.body ≡ true → is_among_entries (facts_in rows.entries) c.target ≡ false) where
   -- an Add
@@ -321,7 +305,7 @@ module _ (rows : BTreeMap Uid (Option Row)) (tree : IsTree rows None []) (ordere
 
     pub own_id : e.id ≡ c.target
     own_id =
-        decide (is_add c.body)
+        cases (is_add c.body)
         (λ t. ap (λ (x : EntryFacts). x.id) (added t))
         (λ f. let r = target_row f in ap (λ (x : EntryFacts). x.id) (raised r.0 r.1) ∙ row_id rows tree ordered c.target r.0 r.1)
 
@@ -336,14 +320,14 @@ module _ (rows : BTreeMap Uid (Option Row)) (tree : IsTree rows None []) (ordere
 
     pub own_below : HasParentBelow e
     own_below =
-        decide (is_add c.body)
+        cases (is_add c.body)
         (λ t. subst HasParentBelow (sym (added t)) (below_add no_suffix c sound t (add_root t)))
         (λ f. let r = target_row f in
         same_below e r.0.entry (kept_id r.0 r.1) (kept_parent f r.0 r.1) (all_at HasParentBelow c.target r.0.entry (facts_in rows.entries) (row_stands rows tree ordered c.target r.0 r.1) tree.below))
 
     pub own_rooted : is_among_entries (facts_in rows.entries) e.parent ≡ true
     own_rooted =
-        decide (is_add c.body)
+        cases (is_add c.body)
         (λ t. ap (is_among_entries (facts_in rows.entries)) (ap (λ (x : EntryFacts). x.parent) (added t) ∙ parent_add no_suffix c sound t (add_root t) ∙ add_parent c.body c.target suffix_id t) ∙ known)
         (λ f. let r = target_row f in
         ap (is_among_entries (facts_in rows.entries)) (kept_parent f r.0 r.1)
@@ -361,19 +345,19 @@ module _ (rows : BTreeMap Uid (Option Row)) (tree : IsTree rows None []) (ordere
     pub own_parent : (r : Row) → row_at rows e.id ≡ Some r → e.parent ≡ r.entry.parent
     own_parent r h =
         let h' : row_at rows c.target ≡ Some r = ap (row_at rows) (sym own_id) ∙ h in
-        decide (is_add c.body)
+        cases (is_add c.body)
         (λ t. never (is_among_entries (facts_in rows.entries) c.target) (row_among rows tree ordered c.target r h') (new t))
         (λ f. kept_parent f r h')
 
     pub own_live : row_at rows e.id ≡ None → is_live e ≡ true
     own_live h =
-        decide (is_add c.body)
+        cases (is_add c.body)
         (λ t. ap is_live (added t) ∙ is_live_add no_suffix c t)
         (λ f. let r = target_row f in let x : ◌≡◌ {A = Option Row} None (Some r.0) = sym h ∙ ap (row_at rows) own_id ∙ r.1 in cc)
 
     pub own_root : IsLiveRoot e
     own_root t =
-        decide (is_modify c.body)
+        cases (is_modify c.body)
         (λ m. let r = own_modified m in
         let life : is_live e ≡ is_live r.0.entry = sym (twice (is_live e)) ∙ ap (λ (x : Child). not x.glue) r.2 ∙ twice (is_live r.0.entry) in
         life

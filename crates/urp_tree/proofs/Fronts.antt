@@ -4,37 +4,22 @@ use Rattle.std.specs.Prelude.{◌||◌, filter, is_some}
 use Rattle.std.specs.List.{AllByRecursion, list_any}
 use Rattle.std.proofs.lemmas.List.{take_more}
 use Rattle.std.specs.BTreeMap.{BTreeMap, get}
-use Rattle.std.specs.Ordering.{is_eq, is_lt, ordering_reverse}
+use Rattle.std.specs.Ordering.{is_eq, ordering_reverse}
 use Rattle.std.specs.declared.cmp.Ordering.{Ordering}
 use Rattle.std.specs.declared.cmp.Ordering.TheVariants.{Less, Equal, Greater}
 use Rattle.repl_data.specs.declared.csn.Uid.{Uid}
 use Rattle.repl_data.specs.declared.change.Rdn.{Rdn}
 use Rattle.repl_data.specs.Order.{uid_cmp, uid_eq, by_order}
-use Rattle.repl_data.proofs.Orders.{uid_exact, uid_total, split}
-use Rattle.repl_data.proofs.InOrder.{is_equal}
+use Rattle.repl_data.proofs.Orders.{uid_total}
 use Rattle.urp_names.specs.declared.contenders.Contender.{Contender}
 use Rattle.urp_names.specs.Contending.{IsOneOf, IsFront, IsInFront, comes_before, contends, put_one, without}
-use Rattle.std.proofs.lemmas.Cmp.{tied_itself}
-use Rattle.urp_names.proofs.Least.{before_is, claim_total, taken_gone}
+use Rattle.urp_names.proofs.Least.{taken_gone, put_there, not_self}
 use Rattle.urp_tree.specs.declared.child.Child.{Child}
 use Rattle.urp_tree.specs.Index.{contender, wanting, HasRisingIds}
 use Rattle.urp_tree.specs.Placed.{is_beaten, place_in, beats, with_entered, HasId, Turns, ArePlaces, HasPlaces, HasFront, KeepsPlaces, StaysSo, Covers}
-use Rattle.urp_tree.proofs.Levels.{self_eq}
 use Rattle.urp_tree.proofs.Placed.{after_placed}
-
-never : {G : Type 0} (b : Bool) → b ≡ true → b ≡ false → G
-never b t f = let e : true ≡ false = sym t ∙ f in cc
-
-same_id : (u v : Uid) → uid_eq u v ≡ true → u ≡ v
-same_id u v h = uid_exact u v (is_equal (uid_cmp u v) h)
-
-either : (a b : Bool) → b ≡ true → (a || b) ≡ true
-either true b h = refl
-either false b h = h
-
-second : (a b : Bool) → (a || b) ≡ false → b ≡ false
-second true b h = let e : true ≡ false = h in cc
-second false b h = h
+use Rattle.repl_data.proofs.Known.{same_id, own_id}
+use Rattle.repl_data.proofs.Bools.{or-right, never}
 
 -- AS FAR AS THE PLACE i of those in front
 pub record FrontAt (front : List Contender) (u : Uid) (entered : Option Child) (old new : BTreeMap Uid (Option Bool)) (i : ℕ) : Type 0 where
@@ -70,7 +55,7 @@ front_more front u entered i d old a b l step keeps there was = record {
 -- WHO CONTENDS AFTER: those of other ids, with who came
 any_put : (q : Contender → Bool) (c : Contender) (cs : List Contender) → contends c.id cs ≡ false → list_any q (put_one c cs) ≡ (q c || list_any q cs)
 any_put q c [] h = refl
-any_put q c (d ∷ ds) h = by (uid_cmp c.id d.id) refl (any_put q c ds (second (uid_eq d.id c.id) (contends c.id ds) h))
+any_put q c (d ∷ ds) h = by (uid_cmp c.id d.id) refl (any_put q c ds (or-right (uid_eq d.id c.id) (contends c.id ds) h))
   where
     turned : (a b x : Bool) → (b || (a || x)) ≡ (a || (b || x))
     turned true true x = refl
@@ -85,22 +70,13 @@ any_put q c (d ∷ ds) h = by (uid_cmp c.id d.id) refl (any_put q c ds (second (
 
 put_kept : (x c : Contender) (cs : List Contender) → contends c.id cs ≡ false → IsOneOf x cs → IsOneOf x (put_one c cs)
 put_kept x c [] h m = elim m [ ]
-put_kept x c (d ∷ ds) h m = by (uid_cmp c.id d.id) refl m (put_kept x c ds (second (uid_eq d.id c.id) (contends c.id ds) h))
+put_kept x c (d ∷ ds) h m = by (uid_cmp c.id d.id) refl m (put_kept x c ds (or-right (uid_eq d.id c.id) (contends c.id ds) h))
   where
     by : (o : Ordering) → uid_cmp c.id d.id ≡ o → IsOneOf x (d ∷ ds) → (IsOneOf x ds → IsOneOf x (put_one c ds)) → IsOneOf x (by_order o (c ∷ d ∷ ds) (c ∷ ds) (d ∷ put_one c ds))
     by Less k m more = inr m
     by Equal k m more = never (uid_eq d.id c.id || contends c.id ds) (ap (λ o. is_eq o || contends c.id ds) (uid_total.antisymm d.id c.id ∙ ap ordering_reverse k)) h
     by Greater k (inl e) more = inl e
     by Greater k (inr n) more = inr (more n)
-
-put_there : (c : Contender) (cs : List Contender) → IsOneOf c (put_one c cs)
-put_there c [] = inl refl
-put_there c (d ∷ ds) = by (put_there c ds) (uid_cmp c.id d.id)
-  where
-    by : IsOneOf c (put_one c ds) → (o : Ordering) → IsOneOf c (by_order o (c ∷ d ∷ ds) (c ∷ ds) (d ∷ put_one c ds))
-    by more Less = inl refl
-    by more Equal = inl refl
-    by more Greater = inr more
 
 all_put : (P : Contender → Type 0) (c : Contender) (cs : List Contender) → P c → AllByRecursion P cs → AllByRecursion P (put_one c cs)
 all_put P c [] p h = (p, tt)
@@ -139,7 +115,7 @@ all_left P u (c ∷ cs) h = by (not (uid_eq c.id u)) (all_left P u cs h.1)
 
 less_beaten : (u : Uid) (x : Contender) (cs : List Contender) → is_beaten cs x ≡ false → is_beaten (without u cs) x ≡ false
 less_beaten u x [] h = refl
-less_beaten u x (c ∷ cs) h = by (not (uid_eq c.id u)) (comes_before c x) h (less_beaten u x cs (second (comes_before c x) (is_beaten cs x) h))
+less_beaten u x (c ∷ cs) h = by (not (uid_eq c.id u)) (comes_before c x) h (less_beaten u x cs (or-right (comes_before c x) (is_beaten cs x) h))
   where
     by : (b a : Bool) → (a || is_beaten cs x) ≡ false → is_beaten (without u cs) x ≡ false → list_any (λ (d : Contender). comes_before d x) (cond b (c ∷ without u cs) (without u cs)) ≡ false
     by true a k more = front (comes_before c x) h
@@ -204,7 +180,7 @@ module _ (parent : Uid) (rdn : Rdn) (u : Uid) (entered : Option Child) (cs ds : 
   names_covered places front all has = record {
     before = was before all;
     after = subst (HasFront places u) (sym turns.who)
-        (all_with (IsHeld places) entered u others turns.own (λ d is n. never (uid_eq d.id u) (ap (λ w. uid_eq w u) is ∙ self_eq u) n) (all_left (IsHeld places) u before (is before all)));
+        (all_with (IsHeld places) entered u others turns.own (λ d is n. never (uid_eq d.id u) (ap (λ w. uid_eq w u) is ∙ own_id u) n) (all_left (IsHeld places) u before (is before all)));
   }
     where
       was : (who : List Contender) → AllByRecursion (IsInFront u before front) who → AllByRecursion (λ (c : Contender). uid_eq c.id u ≡ false → is_beaten before c ≡ false → is_some (get uid_cmp places c.id) ≡ true) who
@@ -214,7 +190,7 @@ module _ (parent : Uid) (rdn : Rdn) (u : Uid) (entered : Option Child) (cs ds : 
       is : (who : List Contender) → AllByRecursion (IsInFront u before front) who → AllByRecursion (IsHeld places) who
       is [] h = tt
       is (c ∷ who) h = (
-        (λ n k. reach places c.id front (h.0 n (second (beats entered c) (is_beaten others c) (sym (beaten_with entered u others c turns.own none_left) ∙ k))) n has),
+        (λ n k. reach places c.id front (h.0 n (or-right (beats entered c) (is_beaten others c) (sym (beaten_with entered u others c turns.own none_left) ∙ k))) n has),
         is who h.1,
       )
 
@@ -222,9 +198,6 @@ module _ (parent : Uid) (rdn : Rdn) (u : Uid) (entered : Option Child) (cs ds : 
 pub none_covered : (parent : Uid) (rdn : Rdn) (u : Uid) (entered : Option Child) (cs ds : List Child) (places : BTreeMap Uid (Option Bool)) → wanting parent rdn cs ≡ [] → Turns parent rdn u entered cs ds → Covers cs ds places parent rdn u
 none_covered parent rdn u entered cs ds places none turns =
     names_covered parent rdn u entered cs ds turns places [] (subst (AllByRecursion (IsInFront u (wanting parent rdn cs) [])) (sym none) tt) tt
-
-not_self : (c : Contender) → comes_before c c ≡ false
-not_self c = before_is c c ∙ ap is_lt (tied_itself claim_total c)
 
 -- the place of the one that came
 pub came_placed : (c : Child) (cs ds : List Child) → HasRisingIds ds → Turns c.parent c.rdn c.id (Some c) cs ds → Some (is_beaten (without c.id (wanting c.parent c.rdn cs)) (contender c)) ≡ place_in ds c.id

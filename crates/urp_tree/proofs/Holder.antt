@@ -26,23 +26,17 @@ use Rattle.urp_tree.specs.Rows.{row_at, facts_in}
 use Rattle.urp_tree.specs.Walk.{child_of, children_in}
 use Rattle.urp_tree.specs.Known.{IsTree}
 use Rattle.urp_tree.specs.Seen.{present_entry, is_sought}
-use Rattle.urp_tree.proofs.Settled.{all_present, children_none, others_none}
+use Rattle.urp_tree.proofs.Settled.{children_none, others_none}
 use Rattle.urp_tree.proofs.Fits.{no_row}
 use Rattle.urp_tree.proofs.Children.{wanting_same}
 use Rattle.urp_tree.proofs.Lost.{lost_same, differs, has_with_id}
+use Rattle.repl_data.proofs.Paths.{all_present}
+use Rattle.urp_tree.proofs.Seen.{find_map}
 
 -- SEARCHES
 find_same : {X : Type 0} (p q : X → Bool) → ((x : X) → p x ≡ q x) → (xs : List X) → find p xs ≡ find q xs
 find_same p q h [] = refl
 find_same p q h (x ∷ xs) = λ i. cond (h x i) (Some x) (find_same p q h xs i)
-
-find_map : {X Y : Type 0} (p : Y → Bool) (F : X → Y) (xs : List X) → find p (map F xs) ≡ option_map F (find (λ x. p (F x)) xs)
-find_map p F [] = refl
-find_map p F (x ∷ xs) = by (p (F x)) (find_map p F xs)
-  where
-    by : (b : Bool) → find p (map F xs) ≡ option_map F (find (λ x. p (F x)) xs) → cond b (Some (F x)) (find p (map F xs)) ≡ option_map F (cond b (Some x) (find (λ x. p (F x)) xs))
-    by true h = refl
-    by false h = h
 
 find_filter : {X : Type 0} (p w : X → Bool) (xs : List X) → find p (filter w xs) ≡ find (λ x. w x && p x) xs
 find_filter p w [] = refl

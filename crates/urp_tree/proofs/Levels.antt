@@ -3,11 +3,10 @@ use Rattle.std.proofs.Common.{◌≡◌, List, [], ◌∷◌, Bool, true, false,
 use Rattle.std.specs.Prelude.{◌⊎◌, ◌&&◌, ◌||◌, find}
 use Rattle.std.specs.List.{AllByRecursion}
 use Rattle.std.specs.Ordering.{is_eq, ordering_reverse}
-use Rattle.std.specs.declared.cmp.Ordering.{Ordering}
 use Rattle.std.specs.declared.cmp.Ordering.TheVariants.{Less, Equal, Greater}
 use Rattle.std.proofs.lemmas.Cmp.{tied_itself}
 use Rattle.repl_data.specs.declared.csn.Uid.{Uid}
-use Rattle.repl_data.specs.Order.{uid_cmp, uid_eq, suffix_id, by_order}
+use Rattle.repl_data.specs.Order.{uid_cmp, uid_eq, suffix_id}
 use Rattle.repl_data.specs.Facts.{EntryFacts}
 use Rattle.repl_data.specs.Presence.{HasParentBelow}
 use Rattle.repl_data.proofs.Orders.{uid_total, uid_exact, split}
@@ -16,12 +15,10 @@ use Rattle.urp_tree.specs.declared.child.Child.{Child}
 use Rattle.urp_tree.specs.Index.{stands_below, without_child, IsOneOf}
 use Rattle.urp_tree.specs.Walk.{child_of}
 use Rattle.urp_tree.specs.Known.{put_fact, HasRisingFacts}
-use Rattle.urp_tree.proofs.Stays.{any_below}
+use Rattle.urp_tree.proofs.Stays.{any_below, put_step}
 use Rattle.urp_tree.proofs.Shield.{shown_by, IsOf, goes_shielded}
-
-decide : {G : Type 0} (b : Bool) → (b ≡ true → G) → (b ≡ false → G) → G
-decide true f g = f refl
-decide false f g = g refl
+use Rattle.repl_data.proofs.Bools.{cases, and_false, either_second}
+use Rattle.repl_data.proofs.Known.{above_id, own_id}
 
 -- a choice of entries with one more
 abbrev pub held : (EntryFacts → Bool) → Uid → EntryFacts → Bool
@@ -41,15 +38,9 @@ AllBelow es = AllByRecursion HasParentBelow es
 pub greater : (u v : Uid) → uid_cmp u v ≡ Greater → uid_cmp v u ≡ Less
 greater u v h = uid_total.antisymm v u ∙ ap ordering_reverse h
 
-less : (u v : Uid) → uid_cmp u v ≡ Less → uid_cmp v u ≡ Greater
-less u v h = uid_total.antisymm v u ∙ ap ordering_reverse h
-
-pub self_eq : (u : Uid) → uid_eq u u ≡ true
-self_eq u = ap is_eq (tied_itself uid_total u)
-
 above_other : (u : Uid) (es : List EntryFacts) → AllAbove u es → AllByRecursion (λ (e : EntryFacts). uid_eq e.id u ≡ false) es
 above_other u [] h = tt
-above_other u (e ∷ es) h = (ap is_eq (less u e.id h.0), above_other u es h.1)
+above_other u (e ∷ es) h = (ap is_eq (above_id u e.id h.0), above_other u es h.1)
 
 pub at_above : (u : Uid) (d : EntryFacts) (above : List EntryFacts) → uid_cmp u d.id ≡ Equal → AllAbove d.id above → AllAbove u above
 at_above u d above e h = subst (λ (v : Uid). AllAbove v above) (sym (uid_exact u d.id e)) h
@@ -95,15 +86,13 @@ found_at u f (d ∷ above) r h =
     none (e ∷ es) a = ap (λ o. cond (is_eq o) (Some e) (find (λ (x : EntryFacts). uid_eq u x.id) es)) a.0 ∙ none es a.1
 
 -- an entry that is put leaves those of lower ids, and stands there itself
-pub put_step : (f e : EntryFacts) (es : List EntryFacts) (o : Ordering) → uid_cmp f.id e.id ≡ o → put_fact f (e ∷ es) ≡ by_order o (f ∷ e ∷ es) (f ∷ es) (e ∷ put_fact f es)
-put_step f e es o h = ap (λ p. by_order p (f ∷ e ∷ es) (f ∷ es) (e ∷ put_fact f es)) h
 
 pub at_put : (e : EntryFacts) (u : Uid) (f : EntryFacts) (es : List EntryFacts) → uid_cmp e.id u ≡ Greater → StandsAt u f es → StandsAt u f (put_fact e es)
 at_put e u f [] g h = elim h [ ]
 at_put e u f (d ∷ above) g (inl h) =
     subst (StandsAt u f) (sym (put_step e d above Greater (subst (λ v. uid_cmp e.id v ≡ Greater) (uid_exact u d.id h.0) g))) (inl h)
 at_put e u f (d ∷ above) g (inr h) =
-    subst (StandsAt u f) (sym (put_step e d above Greater (less d.id e.id (uid_total.trans d.id u e.id (greater u d.id h.0) (greater e.id u g))))) (inr (h.0, at_put e u f above g h.1))
+    subst (StandsAt u f) (sym (put_step e d above Greater (above_id d.id e.id (uid_total.trans d.id u e.id (greater u d.id h.0) (greater e.id u g))))) (inr (h.0, at_put e u f above g h.1))
 
 pub self_put : (e : EntryFacts) (es : List EntryFacts) → StandsAt e.id e (put_fact e es)
 self_put e [] = inl (tied_itself uid_total e.id, refl)
@@ -114,16 +103,12 @@ self_put e (d ∷ above) =
     (λ h. subst (StandsAt e.id e) (sym (put_step e d above Greater h)) (inr (h, self_put e above)))
 
 -- THE CHILDREN OF AN ENTRY stand behind it
-and_no : (a : Bool) → (a && false) ≡ false
-and_no true = refl
-and_no false = refl
-
 pub lower_none : (u : Uid) (d : EntryFacts) → HasParentBelow d → uid_cmp u d.id ≡ Greater → stands_below u (child_of d) ≡ false
-lower_none u d (inl h) g = ap (λ b. uid_eq d.parent u && not b) h ∙ and_no (uid_eq d.parent u)
+lower_none u d (inl h) g = ap (λ b. uid_eq d.parent u && not b) h ∙ and_false (uid_eq d.parent u)
 lower_none u d (inr h) g = ap (λ o. is_eq o && not (uid_eq d.id suffix_id)) (uid_total.trans d.parent d.id u h (greater u d.id g))
 
 pub own_none : (u : Uid) (d : EntryFacts) → HasParentBelow d → uid_cmp u d.id ≡ Equal → stands_below u (child_of d) ≡ false
-own_none u d (inl h) g = ap (λ b. uid_eq d.parent u && not b) h ∙ and_no (uid_eq d.parent u)
+own_none u d (inl h) g = ap (λ b. uid_eq d.parent u && not b) h ∙ and_false (uid_eq d.parent u)
 own_none u d (inr h) g = ap (λ o. is_eq o && not (uid_eq d.id suffix_id)) (subst (λ v. uid_cmp d.parent v ≡ Less) (sym (uid_exact u d.id g)) h)
 
 pub any_tail : (L : EntryFacts → Bool) (u : Uid) (d : EntryFacts) (above : List EntryFacts) → stands_below u (child_of d) ≡ false → any_below u (shown_by L (d ∷ above)) ≡ any_below u (shown_by L above)
@@ -183,7 +168,7 @@ unheld B u f (d ∷ above) r b (inl h) s =
     let at : d.id ≡ u = sym (uid_exact u d.id h.0) in
     let shows : (B d || any_below d.id C) ≡ true =
     (λ i. B (h.1 i) || any_below (at i) C) ∙ ap (λ t. B f || t) (sym (any_tail B u d above (own_none u d b.0 h.0))) ∙ s in
-    (λ i. cond (is_held B u d (ap (λ v. uid_eq v u) at ∙ self_eq u) i || any_below d.id (same i)) (child_of d ∷ same i) (same i))
+    (λ i. cond (is_held B u d (ap (λ v. uid_eq v u) at ∙ own_id u) i || any_below d.id (same i)) (child_of d ∷ same i) (same i))
     ∙ ap (λ t. cond t (child_of d ∷ C) C) (sym shows)
 unheld B u f (d ∷ above) r b (inr h) s =
     let C : List Child = shown_by B above in
@@ -191,10 +176,6 @@ unheld B u f (d ∷ above) r b (inr h) s =
     λ i. cond (not_held B u d (ap is_eq (greater u d.id h.0)) i || any_below d.id (more i)) (child_of d ∷ more i) (more i)
 
 -- an entry that shows is one of the children
-either : (a b : Bool) → b ≡ true → (a || b) ≡ true
-either true b h = refl
-either false b h = h
-
 pub shown_at : (L : EntryFacts → Bool) (u : Uid) (f : EntryFacts) (es : List EntryFacts) → AllBelow es → StandsAt u f es → (L f || any_below u (shown_by L es)) ≡ true → IsOneOf (child_of f) (shown_by L es)
 shown_at L u f [] b h s = elim h [ ]
 shown_at L u f (d ∷ above) b (inl h) s =
@@ -213,12 +194,12 @@ shown_at L u f (d ∷ above) b (inr h) s =
 pub held_shows : (B : EntryFacts → Bool) (u : Uid) (f : EntryFacts) (es : List EntryFacts) → AllBelow es → StandsAt u f es → IsOneOf (child_of f) (shown_by (held B u) es)
 held_shows B u f es b h =
     shown_at (held B u) u f es b h
-    (ap (λ t. t || any_below u (shown_by (held B u) es)) (is_held B u f (ap (λ v. uid_eq v u) (id_at u f es h) ∙ self_eq u)))
+    (ap (λ t. t || any_below u (shown_by (held B u) es)) (is_held B u f (ap (λ v. uid_eq v u) (id_at u f es h) ∙ own_id u)))
 
 any_of : (u : Uid) (c : Child) (cs : List Child) → IsOneOf c cs → stands_below u c ≡ true → any_below u cs ≡ true
 any_of u c [] m h = elim m [ ]
 any_of u c (d ∷ ds) (inl m) h = ap (λ t. t || any_below u ds) (ap (stands_below u) (sym m) ∙ h)
-any_of u c (d ∷ ds) (inr m) h = either (stands_below u d) (any_below u ds) (any_of u c ds m h)
+any_of u c (d ∷ ds) (inr m) h = either_second (stands_below u d) (any_below u ds) (any_of u c ds m h)
 
 -- ONE LEVEL: an entry that is held, and has no reason of its own to show, goes where its parent is held instead
 module _ (B : EntryFacts → Bool) (v q : Uid) (f g : EntryFacts) (es : List EntryFacts) (rises : HasRisingFacts es) (below : AllBelow es)
@@ -233,20 +214,20 @@ module _ (B : EntryFacts → Bool) (v q : Uid) (f g : EntryFacts) (es : List Ent
   q_shows : shown_by both es ≡ shown_by (held B v) es
   q_shows =
       unheld (held B v) q g es rises below stands
-      (either (held B v g) (any_below q (shown_by (held B v) es)) (any_of q (child_of f) (shown_by (held B v) es) (held_shows B v f es below at) child))
+      (either_second (held B v g) (any_below q (shown_by (held B v) es)) (any_of q (child_of f) (shown_by (held B v) es) (held_shows B v f es below at) child))
 
   and_yes : (a : Bool) → (a && true) ≡ (a || false)
   and_yes true = refl
   and_yes false = refl
 
   off : (e : EntryFacts) → uid_eq e.id v ≡ true → uid_eq e.id q ≡ false
-  off e h = ap (λ (w : Uid). uid_eq w q) (uid_exact e.id v (is_equal _ h)) ∙ ap is_eq (less q v lower)
+  off e h = ap (λ (w : Uid). uid_eq w q) (uid_exact e.id v (is_equal _ h)) ∙ ap is_eq (above_id q v lower)
 
   pointwise : (es : List EntryFacts) → AllByRecursion (λ (e : EntryFacts). uid_eq e.id v ≡ true → e ≡ f) es → AllByRecursion (λ e. only_q e ≡ held B q e) es
   pointwise [] h = tt
   pointwise (e ∷ es) h = (
-    decide (uid_eq e.id v)
-        (λ t. ap (λ b. (B e && not b) || uid_eq e.id q) t ∙ ap (λ b. b || uid_eq e.id q) (and_no (B e) ∙ sym (ap B (h.0 t) ∙ weak)))
+    cases (uid_eq e.id v)
+        (λ t. ap (λ b. (B e && not b) || uid_eq e.id q) t ∙ ap (λ b. b || uid_eq e.id q) (and_false (B e) ∙ sym (ap B (h.0 t) ∙ weak)))
         (λ n. ap (λ b. (B e && not b) || uid_eq e.id q) n ∙ ap (λ b. b || uid_eq e.id q) (and_yes (B e) ∙ or_no (B e))),
     pointwise es h.1,
   )
@@ -265,7 +246,7 @@ module _ (B : EntryFacts → Bool) (v q : Uid) (f g : EntryFacts) (es : List Ent
       sym (same_shown (held B q) only_q es (pointwise es one))
       ∙ goes_shielded both only_q v q
       (λ e n. ap (λ b. (B e && not b) || uid_eq e.id q) n ∙ ap (λ b. b || uid_eq e.id q) (and_yes (B e)) ∙ ap (λ b. (B e || b) || uid_eq e.id q) (sym n))
-      (λ e t. ap (λ b. (B e && not b) || uid_eq e.id q) t ∙ ap (λ b. b || uid_eq e.id q) (and_no (B e)) ∙ off e t)
-      (λ e t. either (held B v e) (uid_eq e.id q) (ap is_eq (uid_total.antisymm e.id q ∙ ap ordering_reverse (is_equal _ t))))
+      (λ e t. ap (λ b. (B e && not b) || uid_eq e.id q) t ∙ ap (λ b. b || uid_eq e.id q) (and_false (B e)) ∙ off e t)
+      (λ e t. either_second (held B v e) (uid_eq e.id q) (ap is_eq (uid_total.antisymm e.id q ∙ ap ordering_reverse (is_equal _ t))))
       es (of_parent es one) (ap (any_below v) q_shows ∙ alone)
       ∙ ap (without_child v) q_shows

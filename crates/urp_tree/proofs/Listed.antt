@@ -8,7 +8,7 @@ use Rattle.std.specs.Cmp.{IsTotalOrder}
 use Rattle.std.specs.Map.{lookup, keys_of}
 use Rattle.std.specs.BTreeMap.{BTreeMap, is_at, get, IsOrdered as HasOrderedKeys}
 use Rattle.std.specs.BTreeSet.{insert_key}
-use Rattle.std.specs.Ordering.{is_eq, is_lt, ordering_reverse, ordering_then, match_ordering}
+use Rattle.std.specs.Ordering.{is_eq, ordering_reverse, ordering_then, match_ordering}
 use Rattle.std.specs.declared.cmp.Ordering.{Ordering}
 use Rattle.std.specs.declared.cmp.Ordering.TheVariants.{Less, Equal, Greater}
 use Rattle.std.proofs.lemmas.Cmp.{tied_itself, then_total, on_total}
@@ -17,14 +17,14 @@ use Rattle.std.proofs.lemmas.Map.Keys.{sorted_head, sorted_tail}
 use Rattle.std.proofs.lemmas.List.{length-map}
 use Rattle.repl_data.specs.declared.csn.Uid.{Uid}
 use Rattle.repl_data.specs.declared.change.Rdn.{Rdn}
-use Rattle.repl_data.specs.Order.{uid_cmp, uid_eq, csn_cmp, rdn_key, rdn_key_cmp, same_rdn, foldr, put_by, by_order, in_order, in_order_by}
+use Rattle.repl_data.specs.Order.{uid_cmp, uid_eq, rdn_key, rdn_key_cmp, same_rdn, foldr, put_by, by_order, in_order, in_order_by}
 use Rattle.repl_data.specs.Facts.{EntryFacts}
 use Rattle.repl_data.specs.Presence.{is_child, present_of, is_among_entries, StandsIn}
 use Rattle.repl_data.specs.Names.{has_name, with_id, shown_rdn}
 use Rattle.repl_data.specs.View.{PresentEntry, view_of_facts, is_shown_below, shown_key, shown_key_cmp, children_of}
-use Rattle.repl_data.proofs.Orders.{uid_total, uid_exact, csn_total, rdn_key_total, rdn_key_exact}
+use Rattle.repl_data.proofs.Orders.{uid_total, uid_exact, rdn_key_total, rdn_key_exact}
 use Rattle.repl_data.proofs.InOrder.{is_equal, in_order_by-append}
-use Rattle.repl_data.proofs.Loops.{put_by_map, flat_map_more}
+use Rattle.repl_data.proofs.Loops.{put_by_map, flat_map_more, map_map}
 use Rattle.repl_data.proofs.Sound.{both_true, not_false}
 use Rattle.repl_data.proofs.Steps.{flat_map-append}
 use Rattle.urp_names.specs.declared.contenders.Contender.{Contender}
@@ -37,15 +37,18 @@ use Rattle.urp_tree.specs.Walk.{child_of}
 use Rattle.urp_tree.specs.Known.{IsTree}
 use Rattle.urp_tree.specs.Seen.{present_entry}
 use Rattle.urp_tree.specs.Listed.{Kid, kid_key, kids_of, kids_at, ids_in, IsAlone}
-use Rattle.urp_tree.proofs.Levels.{self_eq}
-use Rattle.urp_tree.proofs.Settled.{all_present, others_none}
-use Rattle.urp_tree.proofs.Fits.{never, no_row, row_there}
+use Rattle.urp_tree.proofs.Settled.{others_none}
+use Rattle.urp_tree.proofs.Fits.{no_row, row_there}
 use Rattle.urp_tree.proofs.Children.{wanting_same}
 use Rattle.urp_tree.proofs.Seen.{only_present}
 use Rattle.urp_tree.proofs.Lost.{lost_same}
 use Rattle.urp_tree.proofs.Paths.{among_facts}
 use Rattle.urp_tree.proofs.Holder.{turned}
 use Rattle.urp_tree.proofs.Rising.{Rise, is_in, AreIn, same_order, own_order}
+use Rattle.repl_data.proofs.Bools.{either_second, either_first, never}
+use Rattle.repl_data.proofs.Paths.{all_present}
+use Rattle.urp_names.proofs.Least.{not_self}
+use Rattle.repl_data.proofs.Known.{own_id}
 
 -- THE ORDER OF CHILDREN
 pub kid_total : IsTotalOrder shown_key_cmp
@@ -111,10 +114,6 @@ filter_map p F (x ∷ xs) = by (p (F x)) (filter_map p F xs)
     by true h = ap (λ r. F x ∷ r) h
     by false h = h
 
-map_map : {X Y Z : Type 0} (g : Y → Z) (f : X → Y) (xs : List X) → map g (map f xs) ≡ map (λ x. g (f x)) xs
-map_map g f [] = refl
-map_map g f (x ∷ xs) = ap (λ r. g (f x) ∷ r) (map_map g f xs)
-
 filter_none : (p : EntryFacts → Bool) (es : List EntryFacts) → AllByRecursion (λ (e : EntryFacts). p e ≡ false) es → filter p es ≡ []
 filter_none p [] h = refl
 filter_none p (e ∷ es) h = ap (λ b. cond b (e ∷ filter p es) (filter p es)) h.0 ∙ filter_none p es h.1
@@ -130,12 +129,8 @@ all_self P e (d ∷ es) (inr s) h = all_self P e es s h.1
 
 among_self : (e : EntryFacts) (es : List EntryFacts) → StandsIn e es → is_among_entries es e.id ≡ true
 among_self e [] s = elim s [ ]
-among_self e (d ∷ es) (inl p) = ap (λ b. b || is_among_entries es e.id) (ap (λ (x : EntryFacts). uid_eq x.id e.id) (sym p) ∙ self_eq e.id)
-among_self e (d ∷ es) (inr s) = later (uid_eq d.id e.id) (is_among_entries es e.id) (among_self e es s)
-  where
-    later : (a b : Bool) → b ≡ true → (a || b) ≡ true
-    later true b h = refl
-    later false b h = h
+among_self e (d ∷ es) (inl p) = ap (λ b. b || is_among_entries es e.id) (ap (λ (x : EntryFacts). uid_eq x.id e.id) (sym p) ∙ own_id e.id)
+among_self e (d ∷ es) (inr s) = either_second (uid_eq d.id e.id) (is_among_entries es e.id) (among_self e es s)
 
 filter_stands : (p : EntryFacts → Bool) (e : EntryFacts) (es : List EntryFacts) → StandsIn e (filter p es) → (p e ≡ true) × StandsIn e es
 filter_stands p e [] s = elim s [ ]
@@ -159,14 +154,6 @@ Among = AreIn shown_key_cmp kid_total kid_exact
 itself : (k : Kid) → is_eq (shown_key_cmp k k) ≡ true
 itself k = ap is_eq (tied_itself kid_total k)
 
-later : (a b : Bool) → b ≡ true → (a || b) ≡ true
-later true b h = refl
-later false b h = h
-
-sooner : (a b : Bool) → a ≡ true → (a || b) ≡ true
-sooner true b h = refl
-sooner false b h = let f : false ≡ true = h in cc
-
 among_append : (xs ys : List Kid) (k : Kid) → among (xs ++ ys) k ≡ (among xs k || among ys k)
 among_append [] ys k = refl
 among_append (x ∷ xs) ys k = ap (λ b. is_eq (shown_key_cmp k x) || b) (among_append xs ys k) ∙ assoc (is_eq (shown_key_cmp k x)) (among xs k) (among ys k)
@@ -177,7 +164,7 @@ among_append (x ∷ xs) ys k = ap (λ b. is_eq (shown_key_cmp k x) || b) (among_
 
 wider : (y : Kid) (ys xs : List Kid) → Among ys xs → Among (y ∷ ys) xs
 wider y ys [] h = tt
-wider y ys (x ∷ xs) h = (later (is_eq (shown_key_cmp x y)) (among ys x) h.0, wider y ys xs h.1)
+wider y ys (x ∷ xs) h = (either_second (is_eq (shown_key_cmp x y)) (among ys x) h.0, wider y ys xs h.1)
 
 both_among : (ks xs ys : List Kid) → Among ks xs → Among ks ys → Among ks (xs ++ ys)
 both_among ks [] ys h g = g
@@ -187,11 +174,11 @@ module _ (kid : EntryFacts → Kid) where
   -- a member of a choice
   chosen : (p : EntryFacts → Bool) (e : EntryFacts) (es : List EntryFacts) → StandsIn e es → p e ≡ true → among (map kid (filter p es)) (kid e) ≡ true
   chosen p e [] s t = elim s [ ]
-  chosen p e (d ∷ es) (inl q) t = ap (λ b. among (map kid (cond b (d ∷ filter p es) (filter p es))) (kid e)) (ap p (sym q) ∙ t) ∙ ap (λ (x : EntryFacts). is_eq (shown_key_cmp (kid e) (kid x)) || among (map kid (filter p es)) (kid e)) (sym q) ∙ sooner (is_eq (shown_key_cmp (kid e) (kid e))) (among (map kid (filter p es)) (kid e)) (itself (kid e))
+  chosen p e (d ∷ es) (inl q) t = ap (λ b. among (map kid (cond b (d ∷ filter p es) (filter p es))) (kid e)) (ap p (sym q) ∙ t) ∙ ap (λ (x : EntryFacts). is_eq (shown_key_cmp (kid e) (kid x)) || among (map kid (filter p es)) (kid e)) (sym q) ∙ either_first (is_eq (shown_key_cmp (kid e) (kid e))) (among (map kid (filter p es)) (kid e)) (itself (kid e))
   chosen p e (d ∷ es) (inr q) t = by (p d) (chosen p e es q t)
     where
       by : (b : Bool) → among (map kid (filter p es)) (kid e) ≡ true → among (map kid (cond b (d ∷ filter p es) (filter p es))) (kid e) ≡ true
-      by true h = later (is_eq (shown_key_cmp (kid e) (kid d))) (among (map kid (filter p es)) (kid e)) h
+      by true h = either_second (is_eq (shown_key_cmp (kid e) (kid d))) (among (map kid (filter p es)) (kid e)) h
       by false h = h
 
   all_kids : (ks : List Kid) (es : List EntryFacts) → ((e : EntryFacts) → StandsIn e es → among ks (kid e) ≡ true) → Among ks (map kid es)
@@ -218,18 +205,6 @@ own_keys (e ∷ es) s = (
   ap (λ o. cond (is_eq o) (Some e.1) (lookup (is_at (rdn_cmp e.0)) es)) (tied_itself rdn_total e.0),
   later_keys es es e (sorted_head rdn_cmp e.0 (keys_of es) s) (own_keys es (sorted_tail rdn_cmp e.0 (keys_of es) s)),
 )
-
-no_self : (c : Contender) → comes_before c c ≡ false
-no_self c = by c.glue (is_lt_self (csn_cmp c.named c.named) (tied_itself csn_total c.named))
-  where
-    is_lt_self : (o : Ordering) → o ≡ Equal → is_lt o ≡ false
-    is_lt_self Less h = let f : Less ≡ Equal = h in cc
-    is_lt_self Equal h = refl
-    is_lt_self Greater h = refl
-
-    by : (g : Bool) → is_lt (csn_cmp c.named c.named) ≡ false → ((not g && g) || ((not g || g) && is_lt (csn_cmp c.named c.named))) ≡ false
-    by true h = h
-    by false h = h
 
 module _ (rows : BTreeMap Uid (Option Row)) (tree : IsTree rows None []) (ordered : HasOrderedKeys uid_cmp rows) (parent : Uid) where
   abbrev facts : List EntryFacts
@@ -263,7 +238,7 @@ module _ (rows : BTreeMap Uid (Option Row)) (tree : IsTree rows None []) (ordere
   own_kid : (e : EntryFacts) → StandsIn e present → kids_at rows e.id ≡ kid e ∷ []
   own_kid e s =
       let r = row_there rows tree ordered e.id (among_facts e.id facts (among_self e present s)) in
-      let same : e ≡ r.0.entry = all_self (λ (x : EntryFacts). uid_eq x.id e.id ≡ true → x ≡ r.0.entry) e present s (only_present rows tree ordered e.id r.0 r.1) (self_eq e.id) in
+      let same : e ≡ r.0.entry = all_self (λ (x : EntryFacts). uid_eq x.id e.id ≡ true → x ≡ r.0.entry) e present s (only_present rows tree ordered e.id r.0 r.1) (own_id e.id) in
       ap (kids_of present e.id) r.1 ∙ ap (λ (x : EntryFacts). (rdn_key (shown_rdn present x), e.id) ∷ []) (sym same)
 
   own_kids : AllByRecursion (λ (e : EntryFacts). kids_at rows e.id ≡ kid e ∷ []) present
@@ -336,8 +311,8 @@ module _ (rows : BTreeMap Uid (Option Row)) (tree : IsTree rows None []) (ordere
     child_among e (x ∷ es) s in_it below h = among_append (map kid (chunk x.0)) (kids_in es) (kid e) ∙ by (is_at (rdn_cmp e.rdn) x.0) refl h (child_among e es s in_it below)
       where
         by : (b : Bool) → is_at (rdn_cmp e.rdn) x.0 ≡ b → cond b (Some x.1) (lookup (is_at (rdn_cmp e.rdn)) es) ≡ Some s → (lookup (is_at (rdn_cmp e.rdn)) es ≡ Some s → among (kids_in es) (kid e) ≡ true) → (among (map kid (chunk x.0)) (kid e) || among (kids_in es) (kid e)) ≡ true
-        by true t k more = sooner (among (map kid (chunk x.0)) (kid e)) (among (kids_in es) (kid e)) (chosen kid (wants_name x.0) e present in_it (λ i. both_is (below i) ((turned x.0 e.rdn ∙ t) i)))
-        by false t k more = later (among (map kid (chunk x.0)) (kid e)) (among (kids_in es) (kid e)) (more k)
+        by true t k more = either_first (among (map kid (chunk x.0)) (kid e)) (among (kids_in es) (kid e)) (chosen kid (wants_name x.0) e present in_it (λ i. both_is (below i) ((turned x.0 e.rdn ∙ t) i)))
+        by false t k more = either_second (among (map kid (chunk x.0)) (kid e)) (among (kids_in es) (kid e)) (more k)
 
     slot_there : (e : EntryFacts) → StandsIn e present → is_child parent e ≡ true → (s : Contending) × (lookup (is_at (rdn_cmp e.rdn)) slots ≡ Some s)
     slot_there e in_it below = by (lookup (is_at (rdn_cmp e.rdn)) slots) refl
@@ -372,7 +347,7 @@ module _ (rows : BTreeMap Uid (Option Row)) (tree : IsTree rows None []) (ordere
         let up : e.parent ≡ parent = uid_exact e.parent parent (is_equal (uid_cmp e.parent parent) (both_true _ _ wants.0).0) in
         let who : wanting e.parent e.rdn (map child_of present) ≡ contends e ∷ [] =
         ap (λ u. wanting u e.rdn (map child_of present)) up ∙ sym (wanting_same parent rdn e.rdn (map child_of present) wants.1) ∙ wanting_is rdn ∙ ap (map contends) is in
-        let unbeaten : not (has_name present e) ≡ false = sym (lost_same e present) ∙ ap (list_any (λ (d : Contender). comes_before d (contends e))) who ∙ ap (λ b. b || false) (no_self (contends e)) in
+        let unbeaten : not (has_name present e) ≡ false = sym (lost_same e present) ∙ ap (list_any (λ (d : Contender). comes_before d (contends e))) who ∙ ap (λ b. b || false) (not_self (contends e)) in
         let key : rdn_key e.rdn ≡ rdn_key rdn = sym (rdn_key_exact (rdn_key rdn) (rdn_key e.rdn) (is_equal (rdn_key_cmp (rdn_key rdn) (rdn_key e.rdn)) wants.1)) in
         ap (λ b. (rdn_key (cond b e.rdn (with_id e.id e.rdn)), e.id)) (not_false (has_name present e) unbeaten) ∙ ap (λ (k : List (List ℕ × List ℕ)). (k, e.id)) key
 

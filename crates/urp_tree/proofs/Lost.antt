@@ -10,10 +10,10 @@ use Rattle.repl_data.specs.declared.csn.Csn.{Csn}
 use Rattle.repl_data.specs.declared.csn.Uid.{Uid}
 use Rattle.repl_data.specs.declared.change.Ava.{Ava}
 use Rattle.repl_data.specs.declared.change.Rdn.{Rdn}
-use Rattle.repl_data.specs.Order.{csn_cmp, csn_lt, zero_csn, uid_eq, suffix_id, bytes_cmp, put_by, by_order, rdn_key, rdn_key_cmp, same_rdn}
+use Rattle.repl_data.specs.Order.{csn_cmp, csn_lt, zero_csn, uid_eq, suffix_id, rdn_key, rdn_key_cmp, same_rdn}
 use Rattle.repl_data.specs.Facts.{EntryFacts}
 use Rattle.repl_data.specs.Presence.{is_live, present_of}
-use Rattle.repl_data.specs.Names.{is_before, contends_with, has_name, is_id_part, has_id, id_ava, with_id, shown_rdn}
+use Rattle.repl_data.specs.Names.{is_before, contends_with, has_name, is_id_part, has_id, with_id, shown_rdn}
 use Rattle.repl_data.specs.View.{DirectoryView, view_of_facts, lost_name, lost_dn}
 use Rattle.repl_data.specs.declared.view.Standing.{Standing}
 use Rattle.repl_data.specs.Lent.{standing, standing_of}
@@ -28,15 +28,8 @@ use Rattle.urp_tree.specs.Walk.{child_of}
 use Rattle.urp_tree.specs.Known.{IsPlain, IsLiveRoot}
 use Rattle.urp_tree.specs.declared.row.Row.{Row}
 use Rattle.urp_tree.specs.Seen.{present_entry, contested_dn, IsPresentRow, IsKept}
-use Rattle.urp_tree.proofs.Fits.{never}
-
-decide : {G : Type 0} (b : Bool) → (b ≡ true → G) → (b ≡ false → G) → G
-decide true f g = f refl
-decide false f g = g refl
-
-twice : (a : Bool) → not (not a) ≡ a
-twice true = refl
-twice false = refl
+use Rattle.repl_data.proofs.Bools.{cases, never, twice}
+use Rattle.repl_data.proofs.NamesDiffer.{with_id-any}
 
 -- ENTRIES AND CONTENDERS
 before_same : (f e : EntryFacts) → comes_before (contender (child_of f)) (contender (child_of e)) ≡ is_before f e
@@ -87,30 +80,17 @@ root_beaten e (f ∷ fs) l n =
 pub root_has : (e : EntryFacts) (present : List EntryFacts) → IsPlain e → IsLiveRoot e → uid_eq e.id suffix_id ≡ true → has_name present e ≡ true
 root_has e present plain live t = ap not (root_beaten e present (live t) (plain.root t).0)
 
-either_right : (a : Bool) → (a || true) ≡ true
-either_right true = refl
-either_right false = refl
-
 -- a name with an id has a part for it
 abbrev part : Ava → List ℕ × List ℕ
 part a = (a.attr.name, a.val.key)
 
-id_among : (u : Uid) (avas : List Ava) → list_any is_id_part (map part (put_by (λ (a : Ava). a.attr.name) bytes_cmp (id_ava u) avas)) ≡ true
-id_among u [] = refl
-id_among u (a ∷ avas) = by (bytes_cmp (id_ava u).attr.name a.attr.name) (id_among u avas)
-  where
-    by : (o : Ordering) → list_any is_id_part (map part (put_by (λ (a : Ava). a.attr.name) bytes_cmp (id_ava u) avas)) ≡ true → list_any is_id_part (map part (by_order o (id_ava u ∷ a ∷ avas) (id_ava u ∷ avas) (a ∷ put_by (λ (a : Ava). a.attr.name) bytes_cmp (id_ava u) avas))) ≡ true
-    by Less g = refl
-    by Equal g = refl
-    by Greater g = ap (λ b. is_id_part (part a) || b) g ∙ either_right (is_id_part (part a))
-
 pub has_with_id : (u : Uid) (rdn : Rdn) → has_id (with_id u rdn) ≡ true
-has_with_id u rdn = id_among u rdn.avas
+has_with_id u rdn = with_id-any u rdn.avas
 
 -- names with and without an id differ
 pub differs : (a b : Rdn) → has_id a ≡ false → has_id b ≡ true → same_rdn a b ≡ false
 differs a b n y =
-    decide (same_rdn a b)
+    cases (same_rdn a b)
     (λ t. let k : rdn_key a ≡ rdn_key b = rdn_key_exact (rdn_key a) (rdn_key b) (is_equal (rdn_key_cmp (rdn_key a) (rdn_key b)) t) in
     never (has_id b) y (sym (ap (list_any is_id_part) k) ∙ n))
     (λ f. f)
@@ -127,7 +107,7 @@ lost_shown e present plain live = by (has_name present e) refl
     by : (b : Bool) → has_name present e ≡ b → not (same_rdn e.rdn (shown (has_name present e))) ≡ not (has_name present e)
     by true h = ap (λ b. not (same_rdn e.rdn (shown b))) h ∙ ap not (same_itself e.rdn) ∙ ap not (sym h)
     by false h =
-        let child : uid_eq e.id suffix_id ≡ false = decide (uid_eq e.id suffix_id) (λ t. never (has_name present e) (root_has e present plain live t) h) (λ f. f) in
+        let child : uid_eq e.id suffix_id ≡ false = cases (uid_eq e.id suffix_id) (λ t. never (has_name present e) (root_has e present plain live t) h) (λ f. f) in
         ap (λ b. not (same_rdn e.rdn (shown b))) h ∙ ap not (differs e.rdn (with_id e.id e.rdn) (plain.child child) (has_with_id e.id e.rdn)) ∙ ap not (sym h)
 
 -- what is said of its standing

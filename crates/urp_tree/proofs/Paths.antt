@@ -19,16 +19,14 @@ use Rattle.urp_tree.specs.declared.row.Row.{Row}
 use Rattle.urp_tree.specs.Rows.{row_at, facts_in}
 use Rattle.urp_tree.specs.Known.{IsTree, IsPlain, HasRisingFacts}
 use Rattle.urp_tree.specs.Seen.{present_entry, IsChildAt, IsHere}
-use Rattle.urp_tree.proofs.Settled.{all_present}
-use Rattle.urp_tree.proofs.Levels.{AllAbove, all_above_at, all_at, self_eq}
+use Rattle.urp_tree.proofs.Levels.{AllAbove, all_above_at, all_at}
 use Rattle.urp_tree.proofs.Ways.{below_parent}
 use Rattle.urp_tree.proofs.Chains.{lower_count, lower_lt}
 use Rattle.urp_tree.proofs.Seen.{IsOnly, rule, only, at, any_child, fewer_present}
-use Rattle.urp_tree.proofs.Fits.{never, no_row, row_there, row_id}
-
-decide : {G : Type 0} (b : Bool) → (b ≡ true → G) → (b ≡ false → G) → G
-decide true f g = f refl
-decide false f g = g refl
+use Rattle.urp_tree.proofs.Fits.{no_row, row_there, row_id}
+use Rattle.repl_data.proofs.Bools.{cases, never}
+use Rattle.repl_data.proofs.Paths.{all_present}
+use Rattle.repl_data.proofs.Known.{own_id}
 
 -- PRESENT ENTRIES, with one of them in their midst
 rising_present : (es : List EntryFacts) → HasRisingFacts es → HasRisingFacts (present_of es)
@@ -48,7 +46,7 @@ record IsMidst (u : Uid) (f : EntryFacts) (es : List EntryFacts) : Type 0 where
 midst : (u : Uid) (f : EntryFacts) (es : List EntryFacts) → HasRisingFacts es → IsOnly u f es → is_among_entries es u ≡ true → IsMidst u f es
 midst u f [] r o h = let e : false ≡ true = h in cc
 midst u f (d ∷ es) r o h =
-    decide (uid_eq d.id u)
+    cases (uid_eq d.id u)
     (λ t. record { low = []; high = es; is = ap (λ x. x ∷ es) (o.0 t); above = subst (λ v. AllAbove v es) (uid_exact d.id u (is_equal (uid_cmp d.id u) t)) r.0 })
     (λ n. let m = midst u f es r.1 o.1 (sym (ap (λ b. b || is_among_entries es u) n) ∙ h) in
     record { low = d ∷ m.low; high = m.high; is = ap (λ xs. d ∷ xs) m.is; above = m.above })
@@ -91,7 +89,7 @@ IsRooted p = uid_eq p.id suffix_id ≡ true → p.parent ≡ suffix_id
 root_among : (ys : List PresentEntry) → AllByRecursion IsRooted ys → path_among ys suffix_id ≡ []
 root_among [] h = refl
 root_among (y ∷ ys) h =
-    decide (uid_eq y.id suffix_id)
+    cases (uid_eq y.id suffix_id)
     (λ t. one_step y ys suffix_id true true t refl ∙ ap (path_among ys) (h.0 t) ∙ root_among ys h.1)
     (λ f. one_step y ys suffix_id false true f refl ∙ root_among ys h.1)
 
@@ -166,7 +164,7 @@ module _ (rows : BTreeMap Uid (Option Row)) (tree : IsTree rows None []) (ordere
         let not_parent : uid_eq e.id e.parent ≡ false = ap (λ v. uid_eq v e.parent) id ∙ ap is_eq (uid_total.antisymm u e.parent ∙ ap ordering_reverse lower) in
         ap (λ ps. path_among ps u) falling
         ∙ skip u high (shows e ∷ low) (turned_all (λ (p : PresentEntry). uid_eq p.id u ≡ false) (map shows split.high) (other_above shows (λ e. refl) u split.high split.above))
-        ∙ one_step (shows e) low u true false (ap (λ v. uid_eq v u) id ∙ self_eq u) child
+        ∙ one_step (shows e) low u true false (ap (λ v. uid_eq v u) id ∙ own_id u) child
         ∙ ap (λ rest. shown_rdn present e ∷ rest)
         (sym
         (ap (λ ps. path_among ps e.parent) falling
@@ -196,7 +194,7 @@ module _ (rows : BTreeMap Uid (Option Row)) (tree : IsTree rows None []) (ordere
 
   pub path_end : (u : Uid) → (uid_eq u suffix_id ≡ false → row_at rows u ≡ None) → is_among_entries present u ≡ true → path_of (view_of_facts suffix facts) u ≡ []
   path_end u none here =
-      decide (uid_eq u suffix_id)
+      cases (uid_eq u suffix_id)
       (λ t. path_root u t)
       (λ f. never (is_among_entries present u) here (fewer_present u facts (no_row rows tree ordered u (none f))))
 
@@ -205,11 +203,11 @@ module _ (rows : BTreeMap Uid (Option Row)) (tree : IsTree rows None []) (ordere
   here_is u r there here = record {
     own = ap (is_among_entries present) (row_id rows tree ordered u r there) ∙ here;
     parent =
-        decide (uid_eq u suffix_id)
+        cases (uid_eq u suffix_id)
         (λ t. let root : uid_eq r.entry.id suffix_id ≡ true = ap (λ v. uid_eq v suffix_id) (row_id rows tree ordered u r there) ∙ t in
         ap (is_among_entries present) (((all_at IsPlain u r.entry facts (at rows tree ordered u r there) tree.plain).root root).1 ∙ sym (uid_exact u suffix_id (is_equal (uid_cmp u suffix_id) t))) ∙ here)
         (λ f. parent_here u r there here f);
   }
 
 pub among_facts : (u : Uid) (es : List EntryFacts) → is_among_entries (present_of es) u ≡ true → is_among_entries es u ≡ true
-among_facts u es h = decide (is_among_entries es u) (λ t. t) (λ f. never (is_among_entries (present_of es) u) h (fewer_present u es f))
+among_facts u es h = cases (is_among_entries es u) (λ t. t) (λ f. never (is_among_entries (present_of es) u) h (fewer_present u es f))

@@ -6,7 +6,7 @@ use Rattle.std.proofs.lemmas.List.{take_more}
 use Rattle.std.proofs.lemmas.List.Folds.{list_any-append}
 use Rattle.std.specs.Map.{lookup}
 use Rattle.std.specs.BTreeMap.{BTreeMap, get, is_at, Updates, IsOrdered as HasOrderedKeys}
-use Rattle.std.specs.Ordering.{is_eq, ordering_reverse}
+use Rattle.std.specs.Ordering.{is_eq}
 use Rattle.std.specs.declared.cmp.Ordering.{Ordering}
 use Rattle.std.specs.declared.cmp.Ordering.TheVariants.{Less, Equal, Greater}
 use Rattle.repl_data.specs.declared.csn.Uid.{Uid}
@@ -15,8 +15,7 @@ use Rattle.repl_data.specs.Order.{uid_cmp, uid_eq, suffix_id, same_rdn, by_order
 use Rattle.repl_data.specs.Facts.{EntryFacts}
 use Rattle.repl_data.specs.Presence.{present_of, is_among_entries}
 use Rattle.repl_data.specs.Names.{has_name}
-use Rattle.repl_data.proofs.Orders.{uid_exact, uid_total}
-use Rattle.repl_data.proofs.InOrder.{is_equal}
+use Rattle.repl_data.proofs.Orders.{uid_exact}
 use Rattle.urp_names.specs.declared.contenders.Contender.{Contender}
 use Rattle.urp_names.specs.Contending.{contends, put_one, without}
 use Rattle.urp_tree.specs.declared.child.Child.{Child}
@@ -31,33 +30,17 @@ use Rattle.urp_tree.specs.Climb.{AreTrue}
 use Rattle.urp_tree.specs.Placed.{at_child, is_beaten, loses_in, place_in, ArePlaces, HasFront, KeepsPlaces, LeavesRest, Covers, CoversStep}
 use Rattle.urp_tree.proofs.Children.{wanting_put, wanting_without, wanting_kept, wanting_same}
 use Rattle.urp_tree.proofs.Walks.{rises_step}
-use Rattle.urp_tree.proofs.Settled.{all_present, children_none, others_none}
-use Rattle.urp_tree.proofs.Levels.{self_eq}
+use Rattle.urp_tree.proofs.Settled.{children_none, others_none}
 use Rattle.urp_tree.proofs.Fits.{no_row, row_id}
 use Rattle.urp_tree.proofs.Seen.{IsOnly, at_id, find_map, found_only, found_none, only}
 use Rattle.urp_tree.proofs.Lost.{lost_same, same_itself}
-
-decide : {G : Type 0} (b : Bool) → (b ≡ true → G) → (b ≡ false → G) → G
-decide true f g = f refl
-decide false f g = g refl
-
-never : {G : Type 0} (b : Bool) → b ≡ true → b ≡ false → G
-never b t f = let e : true ≡ false = sym t ∙ f in cc
+use Rattle.repl_data.proofs.Bools.{cases, never}
+use Rattle.repl_data.proofs.Known.{same_id, eq_turned, own_id}
+use Rattle.repl_data.proofs.Paths.{all_present}
 
 both : {G : Type 0} (a b : Bool) → (a && b) ≡ true → (a ≡ true → b ≡ true → G) → G
 both true b h f = f refl h
 both false b h f = let e : false ≡ true = h in cc
-
-same_id : (u v : Uid) → uid_eq u v ≡ true → u ≡ v
-same_id u v h = uid_exact u v (is_equal (uid_cmp u v) h)
-
-turned_eq : (u v : Uid) → uid_eq u v ≡ uid_eq v u
-turned_eq u v = ap is_eq (uid_total.antisymm u v) ∙ reversed (uid_cmp v u)
-  where
-    reversed : (o : Ordering) → is_eq (ordering_reverse o) ≡ is_eq o
-    reversed Less = refl
-    reversed Equal = refl
-    reversed Greater = refl
 
 -- THE PLACE of an entry, by its facts
 pub place_present : (es : List EntryFacts) (u : Uid) (f : EntryFacts) → IsOnly u f es → is_among_entries (present_of es) u ≡ true → place_in (children_of_facts es) u ≡ Some (not (has_name (present_of es) f))
@@ -134,7 +117,7 @@ later_not c d (e ∷ cs) h (inr m) = later_not c d cs h.1 m
 pub found_member : (c : Child) (cs : List Child) → HasRisingIds cs → IsOneOf c cs → at_child cs c.id ≡ Some c
 found_member c [] r m = elim m [ ]
 found_member c (d ∷ cs) r (inl m) =
-    ap (λ (x : Child). cond (uid_eq x.id c.id) (Some x) (at_child cs c.id)) (sym m) ∙ ap (λ b. cond b (Some c) (at_child cs c.id)) (self_eq c.id)
+    ap (λ (x : Child). cond (uid_eq x.id c.id) (Some x) (at_child cs c.id)) (sym m) ∙ ap (λ b. cond b (Some c) (at_child cs c.id)) (own_id c.id)
 found_member c (d ∷ cs) r (inr m) = ap (λ b. cond b (Some d) (at_child cs c.id)) (later_not d c cs r.0 m) ∙ found_member c cs r.1 m
 
 -- one that is found is there with this id
@@ -147,20 +130,6 @@ found_there u c (d ∷ cs) h = by (uid_eq d.id u) refl h (found_there u c cs)
     by false e k more = let m = more k in (inr m.0, m.1)
 
 -- WHO WANTS A NAME contends for it, and who contends for it is there
-pub wants_contends : (parent : Uid) (rdn : Rdn) (c : Child) (cs : List Child) → IsOneOf c cs → wants parent rdn c ≡ true → contends c.id (wanting parent rdn cs) ≡ true
-wants_contends parent rdn c [] m h = elim m [ ]
-wants_contends parent rdn c (d ∷ cs) (inl m) h =
-    ap (λ b. contends c.id (map contender (cond b (d ∷ filter (wants parent rdn) cs) (filter (wants parent rdn) cs)))) (ap (wants parent rdn) (sym m) ∙ h)
-    ∙ ap (λ b. b || contends c.id (wanting parent rdn cs)) (ap (λ (x : Child). uid_eq x.id c.id) (sym m) ∙ self_eq c.id)
-wants_contends parent rdn c (d ∷ cs) (inr m) h = by (wants parent rdn d) (wants_contends parent rdn c cs m h)
-  where
-    later : (a b : Bool) → b ≡ true → (a || b) ≡ true
-    later true b k = refl
-    later false b k = k
-
-    by : (b : Bool) → contends c.id (wanting parent rdn cs) ≡ true → contends c.id (map contender (cond b (d ∷ filter (wants parent rdn) cs) (filter (wants parent rdn) cs))) ≡ true
-    by true more = later (uid_eq d.id c.id) (contends c.id (wanting parent rdn cs)) more
-    by false more = more
 
 -- a contender with this id is a child that wants the name
 abbrev pub Wanted : Uid → Rdn → Uid → List Child → Type 0
@@ -197,14 +166,14 @@ place_wanting parent rdn c cs r m h =
 module _ (a b : BTreeMap Uid (Option Bool)) (k : Uid) (v : Option Bool) (up : Updates uid_cmp a b k (Some v)) where
   pub one_place : (ds : List Child) → v ≡ place_in ds k → ArePlaces ds a → ArePlaces ds b
   one_place ds own are u place h =
-      decide (uid_eq k u)
+      cases (uid_eq k u)
       (λ e. let is : v ≡ place = (let f : Some v ≡ Some place = sym (up.1) ∙ subst (λ w. get uid_cmp b w ≡ Some place) (sym (same_id k u e)) h in cc) in
       sym is ∙ own ∙ ap (place_in ds) (same_id k u e))
       (λ e. are u place (sym (up.2 u e) ∙ h))
 
   pub keeps_one : KeepsPlaces a b
   keeps_one u h =
-      decide (uid_eq k u)
+      cases (uid_eq k u)
       (λ e. subst (λ w. is_some (get uid_cmp b w) ≡ true) (same_id k u e) (ap is_some up.1))
       (λ e. ap is_some (up.2 u e) ∙ h)
 
@@ -265,7 +234,7 @@ covered cs ds places parent rdn (s ∷ ss) all h = by (touches parent rdn s) ref
     by false w k more = more k
 
 stands_own : (c : Child) → uid_eq c.id suffix_id ≡ false → wants c.parent c.rdn c ≡ true
-stands_own c n = ap (λ b. (b && not (uid_eq c.id suffix_id)) && same_rdn c.rdn c.rdn) (self_eq c.parent) ∙ ap (λ b. not b && same_rdn c.rdn c.rdn) n ∙ same_itself c.rdn
+stands_own c n = ap (λ b. (b && not (uid_eq c.id suffix_id)) && same_rdn c.rdn c.rdn) (own_id c.parent) ∙ ap (λ b. not b && same_rdn c.rdn c.rdn) n ∙ same_itself c.rdn
 
 -- WHO NEITHER COMES NOR GOES
 put_other : (u : Uid) (c : Child) (cs : List Child) → uid_eq c.id u ≡ false → at_child (put_child c cs) u ≡ at_child cs u
@@ -294,7 +263,7 @@ module _ (n : ℕ) (ss : List Step) (cs : List Child) (rises : HasRisingIds cs) 
   late = stepped ss cs
 
   other_than : (u v : Uid) → get uid_cmp places u ≡ None → is_some (get uid_cmp places v) ≡ true → uid_eq v u ≡ false
-  other_than u v none has = decide (uid_eq v u) (λ t. never (is_some (get uid_cmp places u)) (subst (λ x. is_some (get uid_cmp places x) ≡ true) (same_id v u t) has) (ap is_some none)) (λ f. f)
+  other_than u v none has = cases (uid_eq v u) (λ t. never (is_some (get uid_cmp places u)) (subst (λ x. is_some (get uid_cmp places x) ≡ true) (same_id v u t) has) (ap is_some none)) (λ f. f)
 
   same_child : (u : Uid) → get uid_cmp places u ≡ None → at_child late u ≡ at_child cs u
   same_child u none = all ss cs covers
@@ -307,12 +276,12 @@ module _ (n : ℕ) (ss : List Step) (cs : List Child) (rises : HasRisingIds cs) 
   is_beaten_in : (u : Uid) (c : Child) (v : Uid) (xs : List Child) → get uid_cmp places u ≡ None → c.id ≡ u → is_some (get uid_cmp places v) ≡ true → HasFront places v (wanting c.parent c.rdn xs) → IsOneOf c xs → wants c.parent c.rdn c ≡ true
       → is_beaten (wanting c.parent c.rdn xs) (contender c) ≡ true
   is_beaten_in u c v xs none id has front m w =
-      decide (is_beaten (wanting c.parent c.rdn xs) (contender c))
+      cases (is_beaten (wanting c.parent c.rdn xs) (contender c))
       (λ t. t)
       (λ f. never (is_some (get uid_cmp places u))
       (subst (λ x. is_some (get uid_cmp places x) ≡ true) id
       (all_at_child c.parent c.rdn (λ (x : Contender). uid_eq x.id v ≡ false → is_beaten (wanting c.parent c.rdn xs) x ≡ false → is_some (get uid_cmp places x.id) ≡ true) c xs front m w
-      (ap (λ x. uid_eq x v) id ∙ turned_eq u v ∙ other_than u v none has) f))
+      (ap (λ x. uid_eq x v) id ∙ eq_turned u v ∙ other_than u v none has) f))
       (ap is_some none))
 
   pub stays : LeavesRest cs late places
@@ -325,7 +294,7 @@ module _ (n : ℕ) (ss : List Step) (cs : List Child) (rises : HasRisingIds cs) 
           let l = found_there u c late (same_child u none ∙ e) in
           let own : wants c.parent c.rdn c ≡ true = stands_own c (ap (λ v. uid_eq v suffix_id) m.1 ∙ r) in
           let loses : loses_in cs c ≡ loses_in late c =
-          decide (list_any (touches c.parent c.rdn) ss)
+          cases (list_any (touches c.parent c.rdn) ss)
           (λ y. let k = covered cs late places c.parent c.rdn ss covers y in
           is_beaten_in u c k.0 cs none m.1 k.1 k.2.before m.0 own ∙ sym (is_beaten_in u c k.0 late none l.1 k.1 k.2.after l.0 own))
           (λ f. ap (λ who. is_beaten who (contender c)) (sym (untouched n c.parent c.rdn ss cs rises trues f))) in
@@ -356,7 +325,7 @@ covers_last cs ds b (t ∷ ss) s h k = (h.0, covers_last cs ds b ss s h.1 k)
 
 -- the target, where it has no place yet
 pub own_stays : (cs ds : List Child) (u : Uid) (places : BTreeMap Uid (Option Bool)) → (uid_eq u suffix_id ≡ true → place_in cs u ≡ place_in ds u) → LeavesRest cs ds places → is_some (get uid_cmp places u) ≡ false → place_in cs u ≡ place_in ds u
-own_stays cs ds u places root rest none = decide (uid_eq u suffix_id) root (λ f. rest u f (nothing (get uid_cmp places u) none))
+own_stays cs ds u places root rest none = cases (uid_eq u suffix_id) root (λ f. rest u f (nothing (get uid_cmp places u) none))
   where
     nothing : (o : Option (Option Bool)) → is_some o ≡ false → o ≡ None
     nothing None h = refl

@@ -1,72 +1,46 @@
 -- NAMES OF ENTRIES: a sound change gives none with a part for the id, and none to the suffix entry.
-use Rattle.std.proofs.Common.{◌≡◌, ℕ, List, [], ◌∷◌, ◌++◌, refl, sym, ap, subst, ◌∙◌}
-use Rattle.std.specs.Prelude.{Bool, true, false, cond, ◌||◌, map, is_none, Option, Some, None, option_map}
-use Rattle.std.specs.List.{list_any, position_from}
+use Rattle.std.proofs.Common.{◌≡◌, [], ◌∷◌, ◌++◌, refl, sym, ap, subst, ◌∙◌}
+use Rattle.std.specs.Prelude.{Bool, true, false, cond, ◌||◌, map, Option, None}
+use Rattle.std.specs.List.{list_any}
 use Rattle.std.specs.BTreeMap.{BTreeMap, IsOrdered as HasOrderedKeys}
 use Rattle.repl_data.specs.declared.csn.Csn.{Csn}
 use Rattle.repl_data.specs.declared.csn.Uid.{Uid}
-use Rattle.repl_data.specs.declared.change.Ava.{Ava}
 use Rattle.repl_data.specs.declared.change.Attr.{Attr}
 use Rattle.repl_data.specs.declared.change.Rdn.{Rdn}
 use Rattle.repl_data.specs.declared.change.Body.{Body}
 use Rattle.repl_data.specs.declared.change.Body.TheVariants.{Add, Mod as Modify, Ren, Del}
 use Rattle.repl_data.specs.declared.change.Change.{Change}
-use Rattle.repl_data.specs.declared.change.Malformed.TheVariants.{Derived}
 use Rattle.repl_data.specs.declared.change.Suffix.{Suffix}
 use Rattle.repl_data.specs.Order.{csn_lt, uid_cmp, uid_eq, suffix_id}
-use Rattle.repl_data.specs.Types.{is_derived_attribute, is_derived_ava}
-use Rattle.repl_data.specs.Check.{fault_at, faults_of_frame, faults_of_body, derived_places, names_derived}
+use Rattle.repl_data.specs.Types.{is_derived_ava}
+use Rattle.repl_data.specs.Check.{derived_places, names_derived}
 use Rattle.repl_data.specs.Closed.{is_sound, needed}
 use Rattle.repl_data.specs.Facts.{EntryFacts, own_facts}
 use Rattle.repl_data.specs.Presence.{is_among_entries}
 use Rattle.repl_data.specs.Text.{IsInRange}
-use Rattle.repl_data.specs.Names.{is_id_part, has_id}
-use Rattle.repl_data.proofs.Sound.{neither, not_true, no_faults}
-use Rattle.repl_data.proofs.CheckLaws.{any-position}
+use Rattle.repl_data.specs.Names.{has_id}
 use Rattle.stamp_entry.specs.Raised.{facts_after, is_add, named_after, parent_after}
 use Rattle.urp_tree.specs.declared.row.Row.{Row}
 use Rattle.urp_tree.specs.Rows.{facts_in}
 use Rattle.urp_tree.specs.Known.{entry_after, IsTree, IsPlain}
 use Rattle.urp_tree.specs.Climb.{is_modify}
 use Rattle.urp_tree.proofs.Levels.{all_at}
-use Rattle.urp_tree.proofs.Fits.{never, no_suffix, fact_new, row_stands, row_id, target_row, next_row_of, not_root}
-
-decide : {G : Type 0} (b : Bool) → (b ≡ true → G) → (b ≡ false → G) → G
-decide true f g = f refl
-decide false f g = g refl
+use Rattle.urp_tree.proofs.Fits.{no_suffix, fact_new, row_stands, row_id, target_row, next_row_of, not_root}
+use Rattle.repl_data.proofs.Bools.{cases, never}
+use Rattle.repl_data.proofs.NamesClosed.{no_id, sound_names}
 
 -- A NAME OF A SOUND CHANGE
-no_part : (a : Ava) → is_derived_ava a ≡ false → is_id_part (a.attr.name, a.val.key) ≡ false
-unfolding is_derived_attribute
-no_part a h = (neither _ _ (neither _ _ h).0).0
-
-no_parts : (avas : List Ava) (rest : List Bool) → list_any (λ b. b) (map is_derived_ava avas ++ rest) ≡ false → list_any is_id_part (map (λ (a : Ava). (a.attr.name, a.val.key)) avas) ≡ false
-no_parts [] rest h = refl
-no_parts (a ∷ avas) rest h =
-    let both = neither _ _ h in
-    ap (λ b. b || list_any is_id_part (map (λ (a : Ava). (a.attr.name, a.val.key)) avas)) (no_part a both.0) ∙ no_parts avas rest both.1
-
-none_at : (places : List Bool) → is_none (fault_at Derived places) ≡ true → list_any (λ b. b) places ≡ false
-none_at places h = not_true _ (sym (any-position 0 places) ∙ by (position_from (λ b. b) 0 places) h)
-  where
-    by : (o : Option ℕ) → is_none (option_map Derived o) ≡ true → is_none o ≡ true
-    by None e = refl
-    by (Some k) e = e
-
-sound_names : (c : Change) → is_sound c ≡ true → list_any (λ b. b) (derived_places c.body) ≡ false
-sound_names c h = none_at (derived_places c.body) (no_faults (faults_of_frame c ++ faults_of_body c.body) h).1.1.1.1.1.1.1.1.0
-
 plain_after : (c : Csn) (b : Body) (named : Csn) (rdn : Rdn) → list_any (λ b. b) (derived_places b) ≡ false → has_id rdn ≡ false → has_id (named_after c b (named, rdn)).1 ≡ false
 plain_after c (Add parent rdn attrs) n old h o = by (csn_lt n c)
   where
     by : (b : Bool) → has_id (cond {A = Csn × Rdn} b (c, rdn) (n, old)).1 ≡ false
-    by true = no_parts rdn.avas (map (λ (a : Attr). names_derived a.attr a.vals) attrs) h
+    by true = no_id rdn.avas (map (λ (a : Attr). names_derived a.attr a.vals) attrs) h
     by false = o
 plain_after c (Modify mods) n old h o = o
 plain_after c (Ren rdn dropped) n old h o = by (csn_lt n c)
   where
     by : (b : Bool) → has_id (cond {A = Csn × Rdn} b (c, rdn) (n, old)).1 ≡ false
-    by true = no_parts rdn.avas (map is_derived_ava dropped) h
+    by true = no_id rdn.avas (map is_derived_ava dropped) h
     by false = o
 plain_after c Del n old h o = o
 
@@ -100,11 +74,11 @@ module _ (rows : BTreeMap Uid (Option Row)) (tree : IsTree rows None []) (ordere
   added t = is no_suffix ∙ ap (facts_after c) (fact_new rows tree ordered no_suffix c.target (new t))
 
   only_modify : uid_eq c.target suffix_id ≡ true → is_modify c.body ≡ true
-  only_modify t = decide (is_modify c.body) (λ m. m) (λ f. never (uid_eq c.target suffix_id) t (not_root c sound f))
+  only_modify t = cases (is_modify c.body) (λ m. m) (λ f. never (uid_eq c.target suffix_id) t (not_root c sound f))
 
   pub own_plain : IsPlain e
   own_plain =
-      decide (is_add c.body)
+      cases (is_add c.body)
       (λ t. subst IsPlain (sym (added t)) (next_plain c unknown sound only_modify (record { root = λ r. (refl, refl); child = λ f. refl; range = subst (λ (x : EntryFacts). IsInRange x.id.csn) (added t) range })))
       (λ f. let r = target_row rows tree ordered c sound known new f in
       subst IsPlain (sym (is no_suffix ∙ next_row_of rows tree ordered c sound known new no_suffix r.0 r.1))

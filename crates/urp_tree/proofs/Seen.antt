@@ -16,11 +16,13 @@ use Rattle.urp_tree.specs.Walk.{child_of, children_in}
 use Rattle.urp_tree.specs.Known.{IsTree, IsPlain, IsLiveRoot}
 use Rattle.urp_tree.specs.Climb.{Shows, Hides}
 use Rattle.urp_tree.specs.Seen.{present_entry, tombstone, IsPresentRow, IsGoneRow, IsKept}
-use Rattle.urp_tree.proofs.Settled.{all_present}
 use Rattle.urp_tree.proofs.Stays.{any_below}
-use Rattle.urp_tree.proofs.Levels.{StandsAt, the_one, id_at, all_at, self_eq}
+use Rattle.urp_tree.proofs.Levels.{StandsAt, the_one, id_at, all_at}
 use Rattle.urp_tree.proofs.Ways.{zero_any, some_any}
-use Rattle.urp_tree.proofs.Fits.{never, no_row, row_stands}
+use Rattle.urp_tree.proofs.Fits.{no_row, row_stands}
+use Rattle.repl_data.proofs.Bools.{either_second, cases, never}
+use Rattle.repl_data.proofs.Paths.{all_present}
+use Rattle.repl_data.proofs.Known.{own_id}
 
 pub any_child : (u : Uid) (es : List EntryFacts) → list_any (is_child u) es ≡ any_below u (map child_of es)
 any_child u [] = refl
@@ -67,17 +69,13 @@ only_filter p u f (d ∷ es) a = by (p d) (only_filter p u f es a.1)
     by true more = (a.0, more)
     by false more = more
 
-among_later : (a b : Bool) → b ≡ true → (a || b) ≡ true
-among_later true b h = refl
-among_later false b h = h
-
 chosen : (p : EntryFacts → Bool) (u : Uid) (f : EntryFacts) (es : List EntryFacts) → StandsAt u f es → uid_eq f.id u ≡ true → p f ≡ true → is_among_entries (filter p es) u ≡ true
 chosen p u f [] h own t = elim h [ ]
 chosen p u f (d ∷ es) (inl h) own t = ap (λ b. is_among_entries (cond b (d ∷ filter p es) (filter p es)) u) (ap p h.1 ∙ t) ∙ ap (λ b. b || is_among_entries (filter p es) u) (ap (λ (e : EntryFacts). uid_eq e.id u) h.1 ∙ own)
 chosen p u f (d ∷ es) (inr h) own t = by (p d) (chosen p u f es h.1 own t)
   where
     by : (b : Bool) → is_among_entries (filter p es) u ≡ true → is_among_entries (cond b (d ∷ filter p es) (filter p es)) u ≡ true
-    by true more = among_later (uid_eq d.id u) (is_among_entries (filter p es) u) more
+    by true more = either_second (uid_eq d.id u) (is_among_entries (filter p es) u) more
     by false more = more
 
 pub not_chosen : (p : EntryFacts → Bool) (u : Uid) (f : EntryFacts) (es : List EntryFacts) → IsOnly u f es → p f ≡ false → is_among_entries (filter p es) u ≡ false
@@ -141,7 +139,7 @@ module _ (rows : BTreeMap Uid (Option Row)) (tree : IsTree rows None []) (ordere
     id = id_at u r.entry facts at
 
     own : uid_eq r.entry.id u ≡ true
-    own = ap (λ v. uid_eq v u) id ∙ self_eq u
+    own = ap (λ v. uid_eq v u) id ∙ own_id u
 
     pub only : IsOnly u r.entry facts
     only = the_one u r.entry facts tree.rises at
@@ -166,7 +164,7 @@ module _ (rows : BTreeMap Uid (Option Row)) (tree : IsTree rows None []) (ordere
 
     pub shows_among : Shows r.entry r.children → is_among_entries present u ≡ true
     shows_among (inl l) = rule ∙ ap (λ b. b || any_below u (children_in rows)) l
-    shows_among (inr m) = rule ∙ among_later (is_live r.entry) (any_below u (children_in rows)) (some_any u (children_in rows) (λ z. let k : r.children ≡ 0 = (tree.indexed u r there).count ∙ z in omega (arith, k, m)))
+    shows_among (inr m) = rule ∙ either_second (is_live r.entry) (any_below u (children_in rows)) (some_any u (children_in rows) (λ z. let k : r.children ≡ 0 = (tree.indexed u r there).count ∙ z in omega (arith, k, m)))
 
     pub hides_among : Hides r.entry r.children → is_among_entries present u ≡ false
     hides_among h = rule ∙ ap (λ b. b || any_below u (children_in rows)) h.0 ∙ zero_any u (children_in rows) (sym (tree.indexed u r there).count ∙ h.1)
@@ -209,12 +207,8 @@ module _ (rows : BTreeMap Uid (Option Row)) (tree : IsTree rows None []) (ordere
         find_map (λ (e : Tombstone). uid_eq e.id u) tombstone (gone_of facts)
         ∙ ap (option_map tombstone) (found_none u (gone_of facts) (fewer is_gone u facts absent))
 
-decide : {G : Type 0} (b : Bool) → (b ≡ true → G) → (b ≡ false → G) → G
-decide true f g = f refl
-decide false f g = g refl
-
 shows_or_hides : {G : Type 0} (e : EntryFacts) (n : ℕ) → (Shows e n → G) → (Hides e n → G) → G
-shows_or_hides e n s h = decide (is_live e) (λ t. s (inl t)) (λ f. by n (λ m. s (inr m)) (λ z. h (f, z)))
+shows_or_hides e n s h = cases (is_live e) (λ t. s (inl t)) (λ f. by n (λ m. s (inr m)) (λ z. h (f, z)))
   where
     by : {G : Type 0} (n : ℕ) → (0 < n → G) → (n ≡ 0 → G) → G
     by zero s h = h refl

@@ -1,32 +1,27 @@
 -- CHANGES ONE AFTER THE OTHER, in an order of arrival: what is known then is what their set says.
 use Rattle.std.proofs.Common.{◌≡◌, List, [], ◌∷◌, ◌++◌, map, Bool, true, false, cond, not, refl, sym, ap, subst, ◌∙◌, append_assoc, append-nil}
 use Rattle.std.specs.Prelude.{◌&&◌, ◌||◌, fold}
-use Rattle.std.specs.List.{list_any, list_all}
-use Rattle.std.specs.Ordering.{is_eq, ordering_reverse}
+use Rattle.std.specs.List.{list_any}
 use Rattle.repl_data.specs.declared.csn.Csn.{Csn}
 use Rattle.repl_data.specs.declared.csn.Uid.{Uid}
 use Rattle.repl_data.specs.declared.change.Body.{Body}
 use Rattle.repl_data.specs.declared.change.Body.TheVariants.{Add, Mod as Modify, Ren, Del}
 use Rattle.repl_data.specs.declared.change.Change.{Change}
 use Rattle.repl_data.specs.declared.change.Suffix.{Suffix}
-use Rattle.repl_data.specs.Order.{csn_eq, uid_cmp, uid_eq, suffix_id}
+use Rattle.repl_data.specs.Order.{csn_eq, uid_eq}
 use Rattle.repl_data.specs.Stamps.{of_entry}
 use Rattle.repl_data.specs.Check.{is_out_of_order}
-use Rattle.repl_data.specs.Facts.{added_ids, ids_added, ids_known, entry_facts, all_facts}
+use Rattle.repl_data.specs.Facts.{added_ids, ids_added, entry_facts, all_facts}
 use Rattle.repl_data.specs.Presence.{is_among_entries}
-use Rattle.repl_data.specs.Closed.{all_differ, is_known, needed, is_sound, arrives_rooted, IsArrival}
-use Rattle.repl_data.proofs.Sound.{both_true, not_true, not_false, neither, sound_order}
-use Rattle.repl_data.proofs.Orders.{uid_total, uid_exact, csn_exact}
-use Rattle.repl_data.proofs.InOrder.{is_equal, any-in_order_by}
-use Rattle.repl_data.proofs.Arrival.{first_of_entry}
+use Rattle.repl_data.specs.Closed.{all_differ, needed, IsArrival}
+use Rattle.repl_data.proofs.Sound.{both_true, not_true, neither, sound_order}
+use Rattle.repl_data.proofs.Arrival.{first_of_entry, begins_sound, begins_rooted}
 use Rattle.stamp_entry.specs.Raised.{is_add}
 use Rattle.urp_tree.specs.Known.{facts_with, facts_by}
 use Rattle.urp_tree.proofs.Arrives.{facts_next, rooted_last, sound_all}
 use Rattle.urp_tree.proofs.Fits.{not_root_add}
-
-decide : {G : Type 0} (b : Bool) → (b ≡ true → G) → (b ≡ false → G) → G
-decide true f g = f refl
-decide false f g = g refl
+use Rattle.repl_data.proofs.Known.{eq_turned, known_ids}
+use Rattle.urp_tree.proofs.Ready.{own_csn}
 
 -- THE FIRST of some changes
 any_first : (p : Csn → Bool) (xs ys : List Change) → list_any p (map (λ (d : Change). d.csn) (xs ++ ys)) ≡ false → list_any p (map (λ (d : Change). d.csn) xs) ≡ false
@@ -41,20 +36,8 @@ once_first (x ∷ xs) ys h =
     let both = both_true _ _ h in
     ap (λ b. not b && all_differ (map (λ (d : Change). d.csn) xs)) (any_first (csn_eq x.csn) xs ys (not_true _ both.0)) ∙ once_first xs ys both.1
 
-sound_first : (xs ys : List Change) → list_all is_sound (xs ++ ys) ≡ true → list_all is_sound xs ≡ true
-sound_first [] ys h = refl
-sound_first (x ∷ xs) ys h =
-    let both = both_true _ _ h in
-    ap (λ b. b && list_all is_sound xs) both.0 ∙ sound_first xs ys both.1
-
-rooted_first : (before xs ys : List Change) → arrives_rooted before (xs ++ ys) ≡ true → arrives_rooted before xs ≡ true
-rooted_first before [] ys h = refl
-rooted_first before (x ∷ xs) ys h =
-    let both = both_true _ _ h in
-    ap (λ b. b && arrives_rooted (before ++ x ∷ []) xs) both.0 ∙ rooted_first (before ++ x ∷ []) xs ys both.1
-
 pub arrival_first : (xs ys : List Change) → IsArrival (xs ++ ys) → IsArrival xs
-arrival_first xs ys a = record { once = once_first xs ys a.once; sound = sound_first xs ys a.sound; rooted = rooted_first [] xs ys a.rooted }
+arrival_first xs ys a = record { once = once_first xs ys a.once; sound = begins_sound xs ys a.sound; rooted = begins_rooted [] xs ys a.rooted }
 
 facts_from : (suffix : Suffix) (before cs : List Change) → IsArrival (before ++ cs) → fold (λ es c. facts_with suffix c es) (all_facts suffix before) cs ≡ all_facts suffix (before ++ cs)
 facts_from suffix before [] a = ap (all_facts suffix) (sym (append-nil before))
@@ -73,31 +56,19 @@ any_ids : (suffix : Suffix) (xs : List Change) (u : Uid) (vs : List Uid) → is_
 any_ids suffix xs u [] = refl
 any_ids suffix xs u (v ∷ vs) = ap (λ b. uid_eq v u || b) (any_ids suffix xs u vs)
 
-turned_eq : (u v : Uid) → uid_eq u v ≡ uid_eq v u
-turned_eq u v = decide (uid_eq v u) (λ t. same u v t ∙ sym t) (λ f. decide (uid_eq u v) (λ t. t ∙ sym (same v u t)) (λ g. g ∙ sym f))
-  where
-    same : (a b : Uid) → uid_eq b a ≡ true → uid_eq a b ≡ true
-    same a b t = ap is_eq (uid_total.antisymm a b ∙ ap ordering_reverse (is_equal _ t))
-
 any_turned : (u : Uid) (vs : List Uid) → list_any (λ (v : Uid). uid_eq v u) vs ≡ list_any (uid_eq u) vs
 any_turned u [] = refl
-any_turned u (v ∷ vs) = λ i. turned_eq v u i || any_turned u vs i
-
-among_known : (suffix : Suffix) (xs : List Change) (u : Uid) → is_among_entries (all_facts suffix xs) u ≡ is_known xs u
-among_known suffix xs u =
-    any_ids suffix xs u (ids_known xs)
-    ∙ any-in_order_by uid_cmp uid_total (λ (v : Uid). v) uid_exact (λ (v : Uid). uid_eq v u) (suffix_id ∷ added_ids xs)
-    ∙ any_turned u (suffix_id ∷ added_ids xs)
+any_turned u (v ∷ vs) = λ i. eq_turned v u i || any_turned u vs i
 
 pub needed_there : (suffix : Suffix) (xs : List Change) (c : Change) → IsArrival (xs ++ c ∷ []) → is_among_entries (all_facts suffix xs) (needed c.target c.body) ≡ true
-needed_there suffix xs c a = among_known suffix xs (needed c.target c.body) ∙ rooted_last [] xs c a.rooted
+needed_there suffix xs c a = known_ids suffix xs (needed c.target c.body) ∙ rooted_last [] xs c a.rooted
 
 not_added : (u : Uid) (xs : List Change) → of_entry xs u ≡ [] → list_any (uid_eq u) (added_ids xs) ≡ false
 not_added u [] h = refl
 not_added u (x ∷ xs) h = by (uid_eq x.target u) refl h (not_added u xs)
   where
     other : (b : Body) → uid_eq x.target u ≡ false → list_any (uid_eq u) (added_ids xs) ≡ false → list_any (uid_eq u) (ids_added x.target b ++ added_ids xs) ≡ false
-    other (Add parent rdn attrs) n more = ap (λ b. b || list_any (uid_eq u) (added_ids xs)) (turned_eq u x.target ∙ n) ∙ more
+    other (Add parent rdn attrs) n more = ap (λ b. b || list_any (uid_eq u) (added_ids xs)) (eq_turned u x.target ∙ n) ∙ more
     other (Modify mods) n more = more
     other (Ren rdn dropped) n more = more
     other Del n more = more
@@ -106,15 +77,9 @@ not_added u (x ∷ xs) h = by (uid_eq x.target u) refl h (not_added u xs)
     by true e k more = let f : x ∷ of_entry xs u ≡ [] = k in cc
     by false e k more = other x.body e (more k)
 
-add_own : (c : Csn) (u : Uid) (b : Body) → is_out_of_order c u b ≡ false → is_add b ≡ true → u.csn ≡ c
-add_own c u (Add parent rdn attrs) o h = csn_exact u.csn c (is_equal _ (not_false _ (neither _ _ o).0))
-add_own c u (Modify mods) o h = let e : false ≡ true = h in cc
-add_own c u (Ren rdn dropped) o h = let e : false ≡ true = h in cc
-add_own c u Del o h = let e : false ≡ true = h in cc
-
 pub added_new : (suffix : Suffix) (xs : List Change) (c : Change) → IsArrival (xs ++ c ∷ []) → is_add c.body ≡ true → is_among_entries (all_facts suffix xs) c.target ≡ false
 added_new suffix xs c a add =
     let order : is_out_of_order c.csn c.target c.body ≡ false = sound_order c (sound_all xs c a.sound).1 in
-    among_known suffix xs c.target
+    known_ids suffix xs c.target
     ∙ ap (λ b. b || list_any (uid_eq c.target) (added_ids xs)) (not_root_add c.csn c.target c.body order add)
-    ∙ not_added c.target xs (first_of_entry xs c a (add_own c.csn c.target c.body order add))
+    ∙ not_added c.target xs (first_of_entry xs c a (own_csn c.csn c.target c.body order add))

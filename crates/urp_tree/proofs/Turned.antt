@@ -2,14 +2,10 @@
 use Rattle.std.proofs.Common.{◌≡◌, ℕ, suc, arith, List, [], ◌∷◌, length, get_or, ◌<◌, zero, Bool, true, false, cond, not, Option, Some, None, refl, sym, ap, subst, ◌∙◌, inl, inr}
 use Rattle.std.specs.Prelude.{◌⊎◌, ◌&&◌, ◌||◌, slice_get, option_map, is_some}
 use Rattle.std.specs.List.{AllByRecursion, list_any}
-use Rattle.std.specs.Ordering.{is_eq, ordering_reverse}
-use Rattle.std.specs.declared.cmp.Ordering.{Ordering}
-use Rattle.std.specs.declared.cmp.Ordering.TheVariants.{Less, Equal, Greater}
 use Rattle.std.specs.BTreeMap.{BTreeMap, get}
 use Rattle.repl_data.specs.declared.csn.Uid.{Uid}
 use Rattle.repl_data.specs.declared.change.Rdn.{Rdn}
-use Rattle.repl_data.specs.Order.{uid_cmp, uid_eq, suffix_id, same_rdn}
-use Rattle.repl_data.proofs.Orders.{uid_total}
+use Rattle.repl_data.specs.Order.{uid_eq, suffix_id, same_rdn}
 use Rattle.urp_names.specs.declared.contenders.Contender.{Contender}
 use Rattle.urp_names.specs.Contending.{put_one, without}
 use Rattle.urp_tree.specs.declared.child.Child.{Child}
@@ -20,22 +16,15 @@ use Rattle.urp_tree.specs.Walk.{child_in, step_of, stepped, IsTrueOf}
 use Rattle.urp_tree.specs.Climb.{AreTrue, AreLone, IsBehindEnter, IsBehindLeave, IsPair, IsMove}
 use Rattle.urp_tree.specs.Placed.{at_child, loses_in, place_in, with_entered, HasId, Turns, IsTurned, IsMoved, left_of, came_of}
 use Rattle.urp_tree.proofs.Children.{wanting_put, without_fresh}
-use Rattle.urp_tree.proofs.Walks.{rises_step}
-use Rattle.urp_tree.proofs.Ways.{among_without, rises_without}
+use Rattle.urp_tree.proofs.Walks.{rises_step, rises_without}
+use Rattle.urp_tree.proofs.Ways.{among_without}
 use Rattle.urp_tree.proofs.Lost.{same_itself}
 use Rattle.urp_tree.proofs.Placed.{touches, untouched, who_enters, who_stays, who_leaves}
-
-turned_eq : (u v : Uid) → uid_eq u v ≡ uid_eq v u
-turned_eq u v = ap is_eq (uid_total.antisymm u v) ∙ reversed (uid_cmp v u)
-  where
-    reversed : (o : Ordering) → is_eq (ordering_reverse o) ≡ is_eq o
-    reversed Less = refl
-    reversed Equal = refl
-    reversed Greater = refl
+use Rattle.repl_data.proofs.Known.{eq_turned}
 
 -- a step about another parent does nothing to a name
 not_wanted : (p : Uid) (rdn : Rdn) (c : Child) → uid_eq p c.parent ≡ false → wants p rdn c ≡ false
-not_wanted p rdn c h = ap (λ b. (b && not (uid_eq c.id suffix_id)) && same_rdn rdn c.rdn) (turned_eq c.parent p ∙ h)
+not_wanted p rdn c h = ap (λ b. (b && not (uid_eq c.id suffix_id)) && same_rdn rdn c.rdn) (eq_turned c.parent p ∙ h)
 
 quiet_enter : (p : Uid) (rdn : Rdn) (ss : List Step) → AllByRecursion (IsBehindEnter p) ss → list_any (touches p rdn) ss ≡ false
 quiet_enter p rdn [] h = refl
@@ -82,7 +71,7 @@ behind : (cs ds : List Child) (s : Step) (ss : List Step) → HasRisingIds cs �
 behind cs ds s [] r t h k = tt
 behind cs ds s (x ∷ xs) r t h k = (
   turned_name cs (step_of s cs) ds x
-      (who_stays (child_in x).parent (child_in x).rdn s cs r t (not_wanted (child_in x).parent (child_in x).rdn (child_in s) (turned_eq (child_in x).parent (child_in s).parent ∙ h.0))) k.0,
+      (who_stays (child_in x).parent (child_in x).rdn s cs r t (not_wanted (child_in x).parent (child_in x).rdn (child_in s) (eq_turned (child_in x).parent (child_in s).parent ∙ h.0))) k.0,
   behind cs ds s xs r t h.1 k.1,
 )
 

@@ -19,20 +19,14 @@ use Rattle.urp_tree.specs.Index.{stands_below, is_among_children, put_child, wit
 use Rattle.urp_tree.specs.Walk.{child_of, stepped, step_of, child_in, IsTrueOf}
 use Rattle.urp_tree.specs.Known.{put_fact, fact_id, HasRisingFacts}
 use Rattle.urp_tree.specs.Climb.{count_below, IsFound, IsChain, leaves, enters, AreTrue, IsApart, AreApart, IsBehindEnter, IsBehindLeave, AreLone}
-use Rattle.urp_tree.proofs.Children.{IsBelowAll, filter_put, put_back, without_fresh, only, fewer, filters}
+use Rattle.urp_tree.proofs.Children.{filter_put, put_back, without_fresh, only, fewer, filters}
 use Rattle.urp_tree.proofs.Walks.{stepped_last}
 use Rattle.urp_tree.proofs.Settled.{all_put}
 use Rattle.urp_tree.proofs.Stays.{any_below}
 use Rattle.urp_tree.proofs.Shield.{shown_by}
 use Rattle.urp_tree.proofs.Levels.{held, StandsAt, AllAbove, AllBelow, id_at, all_at, found_at, at_put, any_held, unheld, held_shows, goes_up}
-
-decide : {G : Type 0} (b : Bool) → (b ≡ true → G) → (b ≡ false → G) → G
-decide true f g = f refl
-decide false f g = g refl
-
-either : (a b : Bool) → b ≡ true → (a || b) ≡ true
-either true b h = refl
-either false b h = h
+use Rattle.repl_data.proofs.Bools.{cases, either_second, either_turned, neither_then}
+use Rattle.repl_data.proofs.Known.{above_id}
 
 -- LISTS OF CHILDREN: how many stand below an entry, and whether one does
 pub zero_any : (u : Uid) (cs : List Child) → count_below u cs ≡ 0 → any_below u cs ≡ false
@@ -52,7 +46,7 @@ none_zero u (c ∷ cs) h = by (stands_below u c) h (none_zero u cs)
     by false k more = more k
 
 pub some_any : (u : Uid) (cs : List Child) → count_below u cs ≢ 0 → any_below u cs ≡ true
-some_any u cs h = decide (any_below u cs) (λ t. t) (λ f. absurd (h (none_zero u cs f)))
+some_any u cs h = cases (any_below u cs) (λ t. t) (λ f. absurd (h (none_zero u cs f)))
 
 pub among_without : (u : Uid) (cs : List Child) → is_among_children u (without_child u cs) ≡ false
 among_without u [] = refl
@@ -71,25 +65,15 @@ pub count_kept : (u : Uid) (c : Child) (cs : List Child) → HasRisingIds cs →
 count_kept u c cs r m h =
     ap length (sym (without_fresh c.id (filter (stands_below u) cs) (only (stands_below u) c cs r m h)) ∙ sym (filters (stands_below u) (λ (d : Child). not (uid_eq d.id c.id)) cs))
 
-fresh_head : {G : Type 0} (a b : Bool) → (a || b) ≡ false → (a ≡ false → b ≡ false → G) → G
-fresh_head true b h f = let e : true ≡ false = h in cc
-fresh_head false b h f = f refl h
-
-turned : (a b c : Bool) → (b || (a || c)) ≡ (a || (b || c))
-turned true true c = refl
-turned true false c = refl
-turned false true c = refl
-turned false false c = refl
-
 any_put : (u : Uid) (c : Child) (cs : List Child) → is_among_children c.id cs ≡ false → any_below u (put_child c cs) ≡ (stands_below u c || any_below u cs)
 any_put u c [] h = refl
 any_put u c (d ∷ ds) h =
-    fresh_head (uid_eq d.id c.id) (is_among_children c.id ds) h (λ a b.
+    neither_then (uid_eq d.id c.id) (is_among_children c.id ds) h (λ a b.
     split (uid_cmp c.id d.id)
     (λ k. ap (λ o. any_below u (by_order o (c ∷ d ∷ ds) (c ∷ ds) (d ∷ put_child c ds))) k)
     (λ k. let t : true ≡ false = sym (ap is_eq (uid_total.antisymm d.id c.id ∙ ap ordering_reverse k)) ∙ a in cc)
     (λ k. ap (λ o. any_below u (by_order o (c ∷ d ∷ ds) (c ∷ ds) (d ∷ put_child c ds))) k
-    ∙ ap (λ t. stands_below u d || t) (any_put u c ds b) ∙ turned (stands_below u c) (stands_below u d) (any_below u ds)))
+    ∙ ap (λ t. stands_below u d || t) (any_put u c ds b) ∙ either_turned (stands_below u c) (stands_below u d) (any_below u ds)))
 
 -- a child in the place of another of the same id and parent
 pub any_swapped : (u : Uid) (a b : Child) (cs : List Child) → HasRisingIds cs → IsOneOf a cs → b.id ≡ a.id → b.parent ≡ a.parent → any_below u (put_child b (without_child a.id cs)) ≡ any_below u cs
@@ -104,22 +88,6 @@ without_put c cs r f =
     filter_put (λ (d : Child). not (uid_eq d.id c.id)) c cs r f
     ∙ ap (λ o. cond (not (is_eq o)) (put_child c (without_child c.id cs)) (without_child c.id cs)) (tied_itself uid_total c.id)
     ∙ without_fresh c.id cs f
-
-pub rises_without : (u : Uid) (cs : List Child) → HasRisingIds cs → HasRisingIds (without_child u cs)
-rises_without u [] h = tt
-rises_without u (c ∷ cs) h = by (not (uid_eq c.id u)) (rises_without u cs h.1)
-  where
-    kept : (ds : List Child) → IsBelowAll c ds → IsBelowAll c (without_child u ds)
-    kept [] g = tt
-    kept (d ∷ ds) g = one (not (uid_eq d.id u)) (kept ds g.1)
-      where
-        one : (b : Bool) → IsBelowAll c (without_child u ds) → IsBelowAll c (cond b (d ∷ without_child u ds) (without_child u ds))
-        one true more = (g.0, more)
-        one false more = more
-
-    by : (b : Bool) → HasRisingIds (without_child u cs) → HasRisingIds (cond b (c ∷ without_child u cs) (without_child u cs))
-    by true more = (kept cs h.0, more)
-    by false more = more
 
 -- WHAT SHOWS rises, and is no more than the entries
 pub below_shown : (L : EntryFacts → Bool) (u : Uid) (es : List EntryFacts) → AllAbove u es → AllByRecursion (λ (c : Child). uid_cmp u c.id ≡ Less) (shown_by L es)
@@ -236,7 +204,7 @@ AreRootsLive es = AllByRecursion (λ (e : EntryFacts). uid_eq e.id suffix_id ≡
 
 dead_below : (f : EntryFacts) → HasParentBelow f → (uid_eq f.id suffix_id ≡ true → is_live f ≡ true) → is_live f ≡ false → (uid_cmp f.parent f.id ≡ Less) × (uid_eq f.id suffix_id ≡ false)
 dead_below f (inl h) r d = let e : true ≡ false = sym (r h) ∙ d in cc
-dead_below f (inr h) r d = (h, decide (uid_eq f.id suffix_id) (λ t. let e : true ≡ false = sym (r t) ∙ d in cc) (λ n. n))
+dead_below f (inr h) r d = (h, cases (uid_eq f.id suffix_id) (λ t. let e : true ≡ false = sym (r t) ∙ d in cc) (λ n. n))
 
 pub below_parent : (f : EntryFacts) → uid_eq f.id suffix_id ≡ false → stands_below f.parent (child_of f) ≡ true
 below_parent f h = λ i. is_eq (tied_itself uid_total f.parent i) && not (h i)
@@ -244,9 +212,6 @@ below_parent f h = λ i. is_eq (tied_itself uid_total f.parent i) && not (h i)
 pub first_of_chain : (n : ℕ) (es : List EntryFacts) (cs : List Child) (u : Uid) (chain : List Child) → IsChain n es cs u chain → (e : EntryFacts) × IsFound es u e
 first_of_chain n es cs u [] h = (h.0, h.1)
 first_of_chain n es cs u (c ∷ chain) h = (h.0, h.1)
-
-pub swap_less : (u v : Uid) → uid_cmp u v ≡ Less → uid_cmp v u ≡ Greater
-swap_less u v h = uid_total.antisymm v u ∙ ap ordering_reverse h
 
 -- THE ANCESTORS, of an entry e that is put among the entries fs
 module _ (e : EntryFacts) (fs : List EntryFacts) (rises : HasRisingFacts fs) (below : AllBelow fs) (roots : AreRootsLive fs) (own : HasParentBelow e) where
@@ -263,7 +228,7 @@ module _ (e : EntryFacts) (fs : List EntryFacts) (rises : HasRisingFacts fs) (be
   few L = omega (arith, few_shown L after, few_put e fs)
 
   pub stands : (u : Uid) (f : EntryFacts) → uid_cmp u e.id ≡ Less → IsFound fs u f → StandsAt u f fs × StandsAt u f after
-  stands u f l h = let at = found_at u f fs rises h in (at, at_put e u f fs (swap_less u e.id l) at)
+  stands u f l h = let at = found_at u f fs rises h in (at, at_put e u f fs (above_id u e.id l) at)
 
   -- and have names of their own
   pub chain_under : (n : ℕ) (cs : List Child) (u : Uid) (chain : List Child) → IsChain n fs cs u chain → AllByRecursion (IsUnder u) (leaves chain) × AreLone (leaves chain)
@@ -290,7 +255,7 @@ module _ (e : EntryFacts) (fs : List EntryFacts) (rises : HasRisingFacts fs) (be
       reason (inl k) = ap (λ b. b || any_below u (shown_by is_live after)) k
       reason (inr k) =
           let at = (stands u h.0 l h.1).1 in
-          either (is_live h.0) (any_below u (shown_by is_live after))
+          either_second (is_live h.0) (any_below u (shown_by is_live after))
           (sym (any_held is_live u h.0 after rises_after below_after at)
           ∙ some_any u (shown_by (held is_live u) after) (λ z. k (one ∙ ap suc z)))
   down cs u (c ∷ chain) l h one rest =
@@ -314,7 +279,7 @@ module _ (e : EntryFacts) (fs : List EntryFacts) (rises : HasRisingFacts fs) (be
       let more = down cs p chain under chain'
       (rest p lower ∙ count_less p (child_of f) S rising member child ∙ ap (λ ds. suc (count_below p ds)) (as_id ∙ sym next))
       (λ x k. rest x (uid_total.trans x p u k lower)
-      ∙ count_kept x (child_of f) S rising member (ap (λ o. is_eq o && not (uid_eq f.id suffix_id)) (swap_less x p k))
+      ∙ count_kept x (child_of f) S rising member (ap (λ o. is_eq o && not (uid_eq f.id suffix_id)) (above_id x p k))
       ∙ ap (count_below x) (as_id ∙ sym next)) in
       let step : without_child c.id S ≡ shown_by (held is_live p) after = ap (λ (d : Child). without_child d.id S) h.2 ∙ as_id ∙ sym next in (
         (
@@ -348,7 +313,7 @@ module _ (e : EntryFacts) (fs : List EntryFacts) (rises : HasRisingFacts fs) (be
           let at = (stands u h.0 l h.1).1 in
           let is : h.0.id ≡ u = id_at u h.0 after at in
           ap (λ b. b || any_below u (shown_by dropped after)) (dropped_other h.0 (ap (λ v. uid_eq v e.id) is ∙ ap is_eq l) ∙ k)
-      reason (inr k) = either (dropped h.0) (any_below u (shown_by dropped after)) (ap (any_below u) was ∙ some_any u cs k)
+      reason (inr k) = either_second (dropped h.0) (any_below u (shown_by dropped after)) (ap (any_below u) was ∙ some_any u cs k)
   up cs u (c ∷ chain) l was h =
       let f : EntryFacts = h.0 in
       let S : List Child = shown_by (held dropped u) after in

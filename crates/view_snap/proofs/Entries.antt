@@ -5,7 +5,7 @@ use Rattle.std.specs.Option.{option_to_list}
 use Rattle.std.specs.List.{AllByRecursion}
 use Rattle.std.specs.Map.{keys_of, lookup}
 use Rattle.std.specs.BTreeMap.{is_at}
-use Rattle.std.specs.Ordering.{is_eq, ordering_reverse}
+use Rattle.std.specs.Ordering.{is_eq}
 use Rattle.std.specs.declared.cmp.Ordering.TheVariants.{Less, Equal, Greater}
 use Rattle.std.proofs.lemmas.Map.Keys.{sorted_head, sorted_tail}
 use Rattle.std.proofs.lemmas.Cmp.{tied_itself}
@@ -15,7 +15,6 @@ use Rattle.repl_data.specs.Order.{uid_cmp, uid_eq, suffix_id}
 use Rattle.repl_data.specs.View.{DirectoryView, PresentEntry, Tombstone, present_at, gone_at, first_of_two, name_of, parent_of, tombstones_of, user, entry_of, tombstone_of, present_shown, tombstone_shown, shown_present, dn_of, dn_below, path_of}
 use Rattle.repl_data.specs.Lent.{own_of, standing_of, standing, tombstone_own_of, tombstone_parent_of}
 use Rattle.repl_data.proofs.Orders.{uid_total, uid_exact, split}
-use Rattle.repl_data.proofs.InOrder.{is_equal}
 use Rattle.cow_map.specs.Rows.{IsRising}
 use Rattle.view_walk.specs.Tree.{IsAmong}
 use Rattle.view_walk.proofs.Rising.{Rise, same_list}
@@ -23,25 +22,9 @@ use Rattle.view_walk.proofs.Members.{one_of}
 use Rattle.view_snap.specs.Told.{Told, present_in, present_with, gone_in, gone_row, gone_ids, view_of_rows, is_lost, standing_with, present_only, gone_only}
 use Rattle.view_snap.specs.Shown.{shown_with, gone_with}
 use Rattle.view_snap.specs.Maps.{told_at}
-
-pub decide : {G : Type 0} (b : Bool) → (b ≡ true → G) → (b ≡ false → G) → G
-decide true f g = f refl
-decide false f g = g refl
-
-pub never : {G : Type 0} (b : Bool) → b ≡ true → b ≡ false → G
-never b t f = let e : true ≡ false = sym t ∙ f in cc
-
-pub same_id : (u v : Uid) → uid_eq u v ≡ true → u ≡ v
-same_id u v h = uid_exact u v (is_equal (uid_cmp u v) h)
-
-pub self_eq : (u : Uid) → uid_eq u u ≡ true
-self_eq u = ap is_eq (tied_itself uid_total u)
-
-pub turned_eq : (u v : Uid) → uid_eq u v ≡ false → uid_eq v u ≡ false
-turned_eq u v n = decide (uid_eq v u) (λ t. never (uid_eq u v) (ap (uid_eq u) (same_id v u t) ∙ self_eq u) n) (λ f. f)
-
-below_eq : (u v : Uid) → uid_cmp u v ≡ Less → uid_eq v u ≡ false
-below_eq u v h = ap is_eq (uid_total.antisymm v u ∙ ap ordering_reverse h)
+use Rattle.repl_data.proofs.Known.{same_id, own_id}
+use Rattle.repl_data.proofs.Paths.{differs}
+use Rattle.repl_data.proofs.Arrival.{other_order}
 
 -- LISTS OF WHAT HAS AN ID
 module _ {X : Type 0} (id : X → Uid) where
@@ -60,7 +43,7 @@ module _ {X : Type 0} (id : X → Uid) where
   -- who stands in a rising list is found by its id
   pub found_there : (x : X) (xs : List X) → Rise IsBefore xs → IsAmong x xs → at_id (id x) xs ≡ Some x
   found_there x [] r m = elim m [ ]
-  found_there x (y ∷ ys) r (inl e) = ap (λ b. cond b (Some y) (at_id (id x) ys)) (ap (λ w. uid_eq (id w) (id x)) (sym e) ∙ self_eq (id x)) ∙ ap Some (sym e)
+  found_there x (y ∷ ys) r (inl e) = ap (λ b. cond b (Some y) (at_id (id x) ys)) (ap (λ w. uid_eq (id w) (id x)) (sym e) ∙ own_id (id x)) ∙ ap Some (sym e)
   found_there x (y ∷ ys) r (inr m) =
       let less : uid_cmp (id y) (id x) ≡ Less = one_of (λ z. IsBefore y z) x ys m r.0 in
       ap (λ b. cond b (Some y) (at_id (id x) ys)) (ap is_eq less) ∙ found_there x ys r.1 m
@@ -106,7 +89,7 @@ module _ {X : Type 0} (id : X → Uid) (f : Uid → Told → Option X) (own : (u
 
   none_above : (u : Uid) (ks : List Uid) → AllByRecursion (λ k. uid_cmp u k ≡ Less) ks → AllByRecursion (λ k. uid_eq k u ≡ false) ks
   none_above u [] h = tt
-  none_above u (k ∷ ks) h = (below_eq u k h.0, none_above u ks h.1)
+  none_above u (k ∷ ks) h = (differs u k h.0, none_above u ks h.1)
 
   pub found_made : (rows : List (Uid × Told)) → IsRising uid_cmp rows → (u : Uid) → at_id id u (flat_map made rows) ≡ of_kept u (told_at rows u)
   found_made [] r u = refl
@@ -123,15 +106,15 @@ module _ {X : Type 0} (id : X → Uid) (f : Uid → Told → Option X) (own : (u
       here None e = ap (λ z. at_id id k (option_to_list z ++ flat_map made rows)) e ∙ none_found k rows (none_above k (keys_of rows) (sorted_head uid_cmp k (keys_of rows) r)) ∙ sym e
       here (Some x) e =
           ap (λ z. at_id id k (option_to_list z ++ flat_map made rows)) e
-          ∙ ap (λ b. cond b (Some x) (at_id id k (flat_map made rows))) (ap (λ w. uid_eq w k) (own k t x e) ∙ self_eq k)
+          ∙ ap (λ b. cond b (Some x) (at_id id k (flat_map made rows))) (ap (λ w. uid_eq w k) (own k t x e) ∙ own_id k)
           ∙ sym e
 
       both : at_id id u (flat_map made rows) ≡ of_kept u (told_at rows u) → at_id id u (flat_map made ((k, t) ∷ rows)) ≡ of_kept u (told_at ((k, t) ∷ rows) u)
       both rest =
           split (uid_cmp u k)
-          (λ o. aside rest (turned_eq u k (ap is_eq o)) ∙ ap (λ x. of_kept u (cond (is_eq x) (Some t) (told_at rows u))) (sym o))
-          (λ o. subst (λ w. at_id id w (flat_map made ((k, t) ∷ rows)) ≡ of_kept w (told_at ((k, t) ∷ rows) w)) (sym (uid_exact u k o)) (here (f k t) refl ∙ ap (λ b. of_kept k (cond b (Some t) (told_at rows k))) (sym (self_eq k))))
-          (λ o. aside rest (turned_eq u k (ap is_eq o)) ∙ ap (λ x. of_kept u (cond (is_eq x) (Some t) (told_at rows u))) (sym o))
+          (λ o. aside rest (other_order u k (ap is_eq o)) ∙ ap (λ x. of_kept u (cond (is_eq x) (Some t) (told_at rows u))) (sym o))
+          (λ o. subst (λ w. at_id id w (flat_map made ((k, t) ∷ rows)) ≡ of_kept w (told_at ((k, t) ∷ rows) w)) (sym (uid_exact u k o)) (here (f k t) refl ∙ ap (λ b. of_kept k (cond b (Some t) (told_at rows k))) (sym (own_id k))))
+          (λ o. aside rest (other_order u k (ap is_eq o)) ∙ ap (λ x. of_kept u (cond (is_eq x) (Some t) (told_at rows u))) (sym o))
 
   above_made : (k : Uid) (rows : List (Uid × Told)) → AllByRecursion (λ u. uid_cmp k u ≡ Less) (keys_of rows) → AllByRecursion (λ x. uid_cmp k (id x) ≡ Less) (flat_map made rows)
   above_made k [] h = tt

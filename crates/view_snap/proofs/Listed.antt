@@ -13,7 +13,7 @@ use Rattle.repl_data.specs.declared.csn.Uid.{Uid}
 use Rattle.repl_data.specs.declared.change.Rdn.{Rdn}
 use Rattle.repl_data.specs.Order.{uid_cmp, uid_eq, suffix_id, same_rdn, rdn_key, rdn_key_cmp, in_order_by}
 use Rattle.repl_data.specs.View.{DirectoryView, PresentEntry, is_shown_below, children_entries, child_of, children_of, shown_key, shown_key_cmp}
-use Rattle.repl_data.proofs.Orders.{uid_total, uid_exact, rdn_key_total, rdn_key_exact, split}
+use Rattle.repl_data.proofs.Orders.{uid_total, uid_exact, rdn_key_total, rdn_key_exact}
 use Rattle.repl_data.proofs.InOrder.{is_equal, in_order_by-Rises}
 use Rattle.view_walk.specs.Tree.{IsAmong}
 use Rattle.view_walk.proofs.Rising.{Rise, rise_filter, rise_map, same_list}
@@ -25,8 +25,10 @@ use Rattle.view_snap.specs.declared.maps.Maps.{Maps}
 use Rattle.view_snap.specs.Told.{Told, present_with, view_of_rows}
 use Rattle.view_snap.specs.Maps.{AreMaps, spot_cmp, told_at, spot_with, spot_in, spot_of, is_spot, has_spot}
 use Rattle.view_snap.specs.Listed.{is_below, is_named, first_named}
-use Rattle.view_snap.proofs.Entries.{decide, never, same_id, self_eq, IsBefore, before_none, before_trans, found_there, found_among, only_one, present_rise, shown_is, kept_of}
+use Rattle.view_snap.proofs.Entries.{IsBefore, before_none, before_trans, found_there, found_among, only_one, present_rise, shown_is, kept_of}
 use Rattle.view_snap.proofs.Spots.{spot_total, first_equal, last_equal, same_parent, same_shown, same_owner, spot_kept, spot_found}
+use Rattle.repl_data.proofs.Known.{same_id, own_id}
+use Rattle.repl_data.proofs.Sound.{both_true}
 
 -- a child by what orders children: the key of the name that it shows, and its id
 abbrev Kid : Type 0
@@ -37,10 +39,6 @@ kid k = (rdn_key k.shown, k.id)
 
 abbrev IsKidBefore : Kid → Kid → Type 0
 IsKidBefore a b = shown_key_cmp a b ≡ Less
-
-both : (a b : Bool) → (a && b) ≡ true → (a ≡ true) × (b ≡ true)
-both true b h = (refl, h)
-both false b h = let e : false ≡ true = h in cc
 
 rise_of : (ks : List Spot) → IsStrictlySortedBy spot_cmp ks → Rise (λ a b. spot_cmp a b ≡ Less) ks
 rise_of [] s = tt
@@ -86,7 +84,7 @@ module _ (suffix : List ℕ) (m : Maps) (a : AreMaps m) (parent : Uid) where
           record {
             entry = present_with k.id t rdn;
             among = (found_among (λ (x : PresentEntry). x.id) k.id (present_with k.id t rdn) view.present (shown_is suffix m.entries a.entries k.id t rdn e s)).0;
-            below = (λ i. uid_eq (same_parent q k tied i) k.parent && not (n i)) ∙ ap (λ b. b && true) (self_eq k.parent);
+            below = (λ i. uid_eq (same_parent q k tied i) k.parent && not (n i)) ∙ ap (λ b. b && true) (own_id k.parent);
             same = ap (λ z. (z, k.id)) (sym (same_shown q k tied));
           }
 
@@ -133,7 +131,7 @@ module _ (suffix : List ℕ) (m : Maps) (a : AreMaps m) (parent : Uid) where
   kids_back x h =
       let e = of_map shown_key x ordered h in
       let f = of_filter (is_shown_below parent) e.0 view.present (of_in_order shown_key_cmp shown_key e.0 children e.1) in
-      let g = both (uid_eq e.0.parent parent) (not (uid_eq e.0.id suffix_id)) f.1 in
+      let g = both_true (uid_eq e.0.parent parent) (not (uid_eq e.0.id suffix_id)) f.1 in
       let p = place e.0 f.0 (flip (uid_eq e.0.id suffix_id) g.1) in
       subst (λ z. IsAmong z (map kid ks)) (p.same ∙ sym e.2)
       (in_map kid p.spot ks (in_filter (is_below parent) p.spot (keys_of m.below) p.among (ap (λ w. uid_eq w parent) p.below ∙ g.0)))

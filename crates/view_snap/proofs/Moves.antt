@@ -11,7 +11,9 @@ use Rattle.cow_map.specs.Rows.{IsRising}
 use Rattle.view_snap.specs.Told.{Told, told_of, view_of_rows}
 use Rattle.view_snap.specs.Maps.{told_at, told_after}
 use Rattle.urp_tree.specs.Moves.{StandsAs, IsViewMove}
-use Rattle.view_snap.proofs.Entries.{decide, same_id, same_found, present_kept, gone_kept, present_is, gone_is, present_rise, gone_rise}
+use Rattle.view_snap.proofs.Entries.{same_found, present_kept, gone_kept, present_is, gone_is, present_rise, gone_rise}
+use Rattle.repl_data.proofs.Bools.{cases}
+use Rattle.repl_data.proofs.Known.{same_id}
 
 pub drop_none : (cs : List Changed) → drop 0 cs ≡ cs
 drop_none [] = refl
@@ -26,7 +28,7 @@ fits_after : (w : DirectoryView) (u : Uid) (cs : List Changed) (o : Option Told)
 fits_after w u [] o s h = h refl
 fits_after w u (c ∷ cs) o s h =
     fits_after w u cs (cond (uid_eq c.id u) (Some (told_of c)) o) s.1
-    (λ n. decide (uid_eq c.id u)
+    (λ n. cases (uid_eq c.id u)
     (λ t. subst (λ b. Fits w u (cond b (Some (told_of c)) o)) (sym t) (subst (λ x. Fits w x (Some (told_of c))) (same_id c.id u t) (record { present = s.0.present; gone = s.0.gone })))
     (λ f. subst (λ b. Fits w u (cond b (Some (told_of c)) o)) (sym f) (h (ap (λ b. b || is_listed u cs) f ∙ n))))
 

@@ -22,7 +22,10 @@ use Rattle.view_snap.specs.declared.spot.Spot.{Spot}
 use Rattle.view_snap.specs.Told.{Told, present_with, view_of_rows}
 use Rattle.view_snap.specs.Maps.{told_at, above, spot_in, spot_with}
 use Rattle.view_snap.specs.Shown.{IsPresentChild}
-use Rattle.view_snap.proofs.Entries.{decide, never, same_id, self_eq, turned_eq, found_among, IsBefore, present_rise, shown_is, hidden_is, unknown_is}
+use Rattle.view_snap.proofs.Entries.{found_among, IsBefore, present_rise, shown_is, hidden_is, unknown_is}
+use Rattle.repl_data.proofs.Bools.{cases, never}
+use Rattle.repl_data.proofs.Known.{same_id, own_id}
+use Rattle.repl_data.proofs.Arrival.{other_order}
 
 -- entries of other ids do not count
 abbrev AreOthers : Uid → List PresentEntry → Type 0
@@ -132,7 +135,7 @@ module _ (suffix : List ℕ) (rows : List (Uid × Told)) (r : IsRising uid_cmp r
 
       ended : (e : PresentEntry) → e.id ≡ suffix_id → Cut view.present e → path_of view suffix_id ≡ []
       ended e is c =
-          let same : uid_eq e.id suffix_id ≡ true = ap (λ w. uid_eq w suffix_id) is ∙ self_eq suffix_id in
+          let same : uid_eq e.id suffix_id ≡ true = ap (λ w. uid_eq w suffix_id) is ∙ own_id suffix_id in
           path_cut e c suffix_id (ap (λ w. is_le (uid_cmp suffix_id w)) is ∙ ap is_le (tied_itself uid_total suffix_id))
           ∙ (λ i. cond (same i && not (uid_eq suffix_id suffix_id)) (e.shown ∷ []) [] ++ path_among (reverse c.front) (cond (same i) e.parent suffix_id))
           ∙ ap (λ z. path_among (reverse z) e.parent) (no_front c.front (subst (λ w. AllByRecursion (λ (f : PresentEntry). uid_cmp f.id w ≡ Less) c.front) is c.before))
@@ -169,21 +172,21 @@ module _ (suffix : List ℕ) (rows : List (Uid × Told)) (r : IsRising uid_cmp r
     own : path_of view u ≡ rdn ∷ path_among (reverse parted.front) t.parent
     own =
         path_cut e parted u (ap is_le (tied_itself uid_total u))
-        ∙ (λ i. cond (self_eq u i && not (c.child i)) (rdn ∷ []) [] ++ path_among (reverse parted.front) (cond (self_eq u i) t.parent u))
+        ∙ (λ i. cond (own_id u i && not (c.child i)) (rdn ∷ []) [] ++ path_among (reverse parted.front) (cond (own_id u i) t.parent u))
 
     not_less : (w : Uid) → is_lt (uid_cmp w u) ≡ false → (xs : List PresentEntry) → AllByRecursion (λ (f : PresentEntry). uid_cmp f.id u ≡ Less) xs → AreOthers w xs
     not_less w n [] h = tt
     not_less w n (x ∷ xs) h = (
-      decide (uid_eq x.id w) (λ k. never (is_lt (uid_cmp w u)) (ap (λ z. is_lt (uid_cmp z u)) (sym (same_id x.id w k)) ∙ ap is_lt h.0) n) (λ k. k),
+      cases (uid_eq x.id w) (λ k. never (is_lt (uid_cmp w u)) (ap (λ z. is_lt (uid_cmp z u)) (sym (same_id x.id w k)) ∙ ap is_lt h.0) n) (λ k. k),
       not_less w n xs h.1,
     )
 
     pub path_more : path_of view u ≡ rdn ∷ path_of view (above t.parent u)
-    path_more = own ∙ ap (λ z. rdn ∷ z) (decide (is_lt (uid_cmp t.parent u)) less more)
+    path_more = own ∙ ap (λ z. rdn ∷ z) (cases (is_lt (uid_cmp t.parent u)) less more)
       where
         less : is_lt (uid_cmp t.parent u) ≡ true → path_among (reverse parted.front) t.parent ≡ path_of view (above t.parent u)
         less h =
-            let n : uid_eq u t.parent ≡ false = turned_eq t.parent u (by (uid_cmp t.parent u) h) in
+            let n : uid_eq u t.parent ≡ false = other_order t.parent u (by (uid_cmp t.parent u) h) in
             sym (ap (λ b. path_of view (cond b t.parent suffix_id)) h
             ∙ path_cut e parted t.parent (by_le (uid_cmp t.parent u) h)
             ∙ (λ i. cond (n i && not (uid_eq t.parent suffix_id)) (rdn ∷ []) [] ++ path_among (reverse parted.front) (cond (n i) t.parent t.parent)))
@@ -251,7 +254,7 @@ low_less w u h (x ∷ rows) t k = by (is_eq (uid_cmp u x.0)) refl k (low_less w 
     by false e o more = either (is_le (uid_cmp x.0 w)) (is_le (uid_cmp x.0 u)) refl refl (more o)
 
 pub path_less : (rows : List (Uid × Told)) (u : Uid) (t : Told) → IsPresentChild rows u t → low_count (above t.parent u) rows < low_count u rows
-path_less rows u t c = low_less (above t.parent u) u (decide (is_lt (uid_cmp t.parent u)) less more) rows t c.there
+path_less rows u t c = low_less (above t.parent u) u (cases (is_lt (uid_cmp t.parent u)) less more) rows t c.there
   where
     is_less : (o : Ordering) → is_lt o ≡ true → o ≡ Less
     is_less Less k = refl
@@ -266,5 +269,5 @@ path_less rows u t c = low_less (above t.parent u) u (decide (is_lt (uid_cmp t.p
         ap (λ b. uid_cmp (cond b t.parent suffix_id) u) h
         ∙ split (uid_cmp suffix_id u)
         (λ o. o)
-        (λ o. never (uid_eq u suffix_id) (ap (λ z. uid_eq z suffix_id) (sym (uid_exact suffix_id u o)) ∙ self_eq suffix_id) c.child)
+        (λ o. never (uid_eq u suffix_id) (ap (λ z. uid_eq z suffix_id) (sym (uid_exact suffix_id u o)) ∙ own_id suffix_id) c.child)
         (λ o. absurd (no_csn_below u.csn (uid_total.antisymm u suffix_id ∙ ap ordering_reverse o)))

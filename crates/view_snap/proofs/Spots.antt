@@ -18,7 +18,8 @@ use Rattle.view_snap.specs.declared.spot.Spot.{Spot}
 use Rattle.view_snap.specs.declared.maps.Maps.{Maps}
 use Rattle.view_snap.specs.Told.{Told}
 use Rattle.view_snap.specs.Maps.{AreMaps, spot_cmp, told_at, spot_with, spot_of, spot_in, is_spot, has_spot}
-use Rattle.view_snap.proofs.Entries.{decide, never, same_id}
+use Rattle.repl_data.proofs.Bools.{cases, never}
+use Rattle.repl_data.proofs.Known.{same_id}
 
 pub spot_total : IsTotalOrder spot_cmp
 spot_total =
@@ -82,7 +83,7 @@ gone_nowhere u t h = by (uid_eq u suffix_id) t.shown h
 -- where an entry stands, its spot is
 pub spot_there : (m : Maps) → AreMaps m → (u : Uid) (q : Spot) → is_spot (spot_in u (told_at m.entries u)) q ≡ true → has_spot m.below q ≡ true
 spot_there m a u q h =
-    decide (uid_eq u q.id)
+    cases (uid_eq u q.id)
     (λ t. a.spots q ∙ ap (λ w. is_spot (spot_in w (told_at m.entries w)) q) (sym (same_id u q.id t)) ∙ h)
     (λ f. never (is_spot (spot_in u (told_at m.entries u)) q) h (other_spot u (told_at m.entries u) q f))
 
@@ -91,7 +92,7 @@ pub put_spots : (m : Maps) → AreMaps m → (u : Uid) (t : Told) (below : List 
     → ((w : Uid) → told_at entries w ≡ cond (uid_eq u w) (Some t) (told_at m.entries w))
     → (q : Spot) → has_spot below q ≡ is_spot (spot_in q.id (told_at entries q.id)) q
 put_spots m a u t below entries g h q =
-    decide (uid_eq u q.id)
+    cases (uid_eq u q.id)
     (λ e. own (same_id u q.id e) e)
     (λ n. g q
     ∙ (λ i. other_owner u t q n i || (not (other_spot u (told_at m.entries u) q n i) && has_spot m.below q))

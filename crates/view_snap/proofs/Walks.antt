@@ -20,19 +20,11 @@ use Rattle.cow_map.specs.Places.{IsUpward}
 use Rattle.view_snap.specs.declared.spot.Spot.{Spot}
 use Rattle.view_snap.specs.Maps.{spot_cmp}
 use Rattle.view_snap.specs.Listed.{is_below, is_named, first_named}
-use Rattle.view_snap.proofs.Entries.{decide, never, self_eq}
 use Rattle.view_snap.proofs.Spots.{first_equal, last_equal}
+use Rattle.repl_data.proofs.Bools.{cases, never}
 
 abbrev pub Row : Type 0
 Row = Spot × Unit {0}
-
-pub flipped : (b : Bool) → not b ≡ true → b ≡ false
-flipped true h = let e : false ≡ true = h in cc
-flipped false h = refl
-
-pub unflipped : (b : Bool) → not b ≡ false → b ≡ true
-unflipped true h = refl
-unflipped false h = let e : true ≡ false = h in cc
 
 module _ {K : Type 0} {R : K → K → Ordering} (total : IsTotalOrder R) where
   le_trans : (x y z : K) → is_le (R x y) ≡ true → is_le (R y z) ≡ true → is_le (R x z) ≡ true
@@ -160,7 +152,7 @@ below_last parent r rows s f n = ap (λ b. cond b (r.0 ∷ filter (is_below pare
   where
     past : (k : Spot) → spot_cmp r.0 k ≡ Less → is_below parent k ≡ false
     past k h =
-        decide (is_below parent k)
+        cases (is_below parent k)
         (λ t. let is : k.parent ≡ parent = uid_exact k.parent parent (is_equal (uid_cmp k.parent parent) t) in
         let low : is_le (uid_cmp r.0.parent parent) ≡ true = subst (λ w. is_le (uid_cmp r.0.parent w) ≡ true) is (first_le _ _ h) in
         never (is_below parent r.0) (ap is_eq (le_both uid_total r.0.parent parent low f)) n)
@@ -196,7 +188,7 @@ module _ (parent : Uid) (rdn : Rdn) where
   -- behind a row that is at the place or behind it and does not show the name, nobody does
   nobody : (k : Spot) → is_from_named parent rdn k ≡ true → is_named parent rdn k ≡ false → (ks : List Spot) → AllByRecursion (λ j. spot_cmp k j ≡ Less) ks → find (is_named parent rdn) ks ≡ None
   nobody k f n [] h = refl
-  nobody k f n (j ∷ ks) h = ap (λ b. cond b (Some j) (find (is_named parent rdn) ks)) (decide (is_named parent rdn j) past (λ e. e)) ∙ nobody k f n ks h.1
+  nobody k f n (j ∷ ks) h = ap (λ b. cond b (Some j) (find (is_named parent rdn) ks)) (cases (is_named parent rdn j) past (λ e. e)) ∙ nobody k f n ks h.1
     where
       past : is_named parent rdn j ≡ true → is_named parent rdn j ≡ false
       past t =
@@ -207,7 +199,7 @@ module _ (parent : Uid) (rdn : Rdn) where
   pub named_first : (rows : List Row) (r : Row) (rest : List Row) → IsRising spot_cmp rows → r ∷ rest ≡ from_rows (is_from_named parent rdn) rows → first_named parent rdn (keys_of rows) ≡ cond (is_named parent rdn r.0) (Some r.0.id) None
   named_first rows r rest s h =
       ap (option_map (λ (k : Spot). k.id)) (found_from (is_from_named parent rdn) (is_named parent rdn) named_from rows ∙ ap (λ z. find (is_named parent rdn) (keys_of z)) (sym h))
-      ∙ decide (is_named parent rdn r.0)
+      ∙ cases (is_named parent rdn r.0)
       (λ t. ap (λ b. option_map (λ (k : Spot). k.id) (cond b (Some r.0) (find (is_named parent rdn) (keys_of rest)))) t ∙ ap (λ b. cond b (Some r.0.id) None) (sym t))
       (λ n. ap (λ b. option_map (λ (k : Spot). k.id) (cond b (Some r.0) (find (is_named parent rdn) (keys_of rest)))) n
       ∙ ap (option_map (λ (k : Spot). k.id)) (nobody r.0 here n (keys_of rest) above)

@@ -7,10 +7,9 @@ use Rattle.repl_data.specs.declared.change.Rdn.{Rdn}
 use Rattle.repl_data.specs.Order.{uid_eq, suffix_id, rdn_key}
 use Rattle.repl_data.specs.View.{DirectoryView, PresentEntry, path_of}
 use Rattle.repl_data.proofs.Known.{same_id}
-use Rattle.repl_data.proofs.Bools.{either_true}
+use Rattle.repl_data.proofs.Bools.{either_true, never}
 use Rattle.view_walk.specs.Tree.{IsAmong, IsNamedTree}
 use Rattle.view_walk.specs.Walk.{is_within}
-use Rattle.view_walk.proofs.Members.{never}
 use Rattle.view_walk.proofs.Lineage.{path_lineage, lineage_step, climb}
 use Rattle.view_walk.proofs.Within.{is_under, under_step, under_none, IsChild, child_facts}
 

@@ -14,8 +14,9 @@ use Rattle.repl_data.proofs.Known.{own_id, same_id}
 use Rattle.repl_data.proofs.Paths.{differs}
 use Rattle.view_walk.specs.Tree.{IsAmong, AreRising, HasParentBelow, is_present, IsNamedTree}
 use Rattle.view_walk.specs.Walk.{lineage_among}
-use Rattle.view_walk.proofs.Members.{never, of_reverse, in_reverse, one_of, each_of}
+use Rattle.view_walk.proofs.Members.{of_reverse, in_reverse, one_of, each_of}
 use Rattle.view_walk.proofs.Rising.{Rise, rise_reverse}
+use Rattle.repl_data.proofs.Bools.{never}
 
 abbrev Below : PresentEntry → PresentEntry → Type 0
 Below a b = uid_cmp b.id a.id ≡ Less

@@ -8,9 +8,6 @@ use Rattle.std.proofs.lemmas.Grind.{reverse_onto}
 use Rattle.repl_data.specs.Order.{put_by, by_order, in_order_by}
 use Rattle.view_walk.specs.Tree.{IsAmong}
 
-pub never : {G : Type 0} (b : Bool) → b ≡ true → b ≡ false → G
-never b t f = let e : true ≡ false = sym t ∙ f in cc
-
 module _ {X : Type 0} where
   pub in_front : (x : X) (xs ys : List X) → IsAmong x xs → IsAmong x (xs ++ ys)
   in_front x [] ys m = elim m [ ]

@@ -6,10 +6,10 @@ use Rattle.repl_data.specs.declared.csn.Uid.{Uid}
 use Rattle.repl_data.specs.Order.{uid_eq, suffix_id}
 use Rattle.repl_data.specs.View.{DirectoryView, PresentEntry, is_shown_below}
 use Rattle.repl_data.proofs.Known.{own_id, same_id}
-use Rattle.repl_data.proofs.Bools.{either_first, either_second, either_true, cases}
+use Rattle.repl_data.proofs.Bools.{either_first, either_second, either_true, cases, never}
 use Rattle.view_walk.specs.Tree.{IsAmong, HasParentThere, is_present, IsNamedTree}
 use Rattle.view_walk.specs.Walk.{ancestors_of, is_within}
-use Rattle.view_walk.proofs.Members.{never, one_of}
+use Rattle.view_walk.proofs.Members.{one_of}
 use Rattle.view_walk.proofs.Lineage.{HasEntry, find_entry, lineage, lineage_suffix, lineage_step, climb}
 
 -- strictly below the base

@@ -8,9 +8,10 @@ use Rattle.urp_names.specs.Contending.{comes_before}
 use Rattle.urp_tree.specs.Index.{contender, who_at}
 use Rattle.urp_tree.specs.Rows.{row_at, facts_in}
 use Rattle.urp_tree.specs.Walk.{child_of}
-use Rattle.urp_tree.proofs.Fits.{never, no_row}
+use Rattle.urp_tree.proofs.Fits.{no_row}
 use Rattle.urp_tree.proofs.Lost.{lost_same}
 use Rattle.urp_tree.proofs.asked.lost.Goals as goal
+use Rattle.repl_data.proofs.Bools.{never}
 
 pub returns-in-Some : goal.returns-in-Some
 returns-in-Some c =

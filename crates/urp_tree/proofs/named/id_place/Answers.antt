@@ -3,9 +3,9 @@ use Rattle.repl_data.specs.declared.change.Ava.{Ava}
 use Rattle.repl_data.specs.Order.{bytes_cmp}
 use Rattle.repl_data.specs.Names.{id_ava}
 use Rattle.urp_names.proofs.Places.{put_less, put_greater}
-use Rattle.urp_tree.proofs.Fits.{never}
 use Rattle.urp_tree.proofs.IdNames.{is_id, none_at, tied_is_id, put_end}
 use Rattle.urp_tree.proofs.named.id_place.Goals as goal
+use Rattle.repl_data.proofs.Bools.{never}
 
 pub returns-in-Equal-clause-put : goal.returns-in-Equal-clause-put
 returns-in-Equal-clause-put c = λ u none.
