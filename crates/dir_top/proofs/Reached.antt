@@ -191,7 +191,7 @@ module _ (s : State) (lawful : IsLawful s.world) where
   carries (line.Fail n j) b w = absurd (true≢false (sym b))
   carries (line.Vector n) b w = leads-event judge_view s.world (event.Vector n) tt
   carries (line.Dump n) b w = leads-event judge_view s.world (event.Dump n) tt
-  carries (line.Audit n) b w = absurd (true≢false (sym b))
+  carries (line.Audit n) b w = leads-event judge_view s.world (event.Audit n) tt
 
 -- ---- all lines
 

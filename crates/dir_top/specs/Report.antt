@@ -6,6 +6,7 @@ use Rattle.ldap_types.specs.declared.reply.Reply.{Reply}
 use Rattle.ldap_types.specs.declared.reply.ReplyOp.{ReplyOp}
 use Rattle.ldap_replies.specs.Form.{reply_bytes}
 use Rattle.conn_core.specs.Serving.{response}
+use Rattle.view_counts.specs.declared.replica.Audit.{Audit}
 use Rattle.world_core.specs.World.{used_up}
 use Rattle.world_core.specs.Write.{busy, success}
 use Rattle.world_core.specs.declared.event.Happened.{Happened}
@@ -13,6 +14,7 @@ use Rattle.world_core.specs.declared.event.Happened.TheVariants as what
 use Rattle.script_text.specs.Print.{entry_lines}
 use Rattle.script_text.specs.Output.{output_line, reply_line, vector_line}
 use Rattle.script_text.specs.declared.output.OutputLine.TheVariants as out
+use Rattle.script_text.specs.declared.output.Counts.{Counts}
 use Rattle.dir_top.specs.declared.state.Owed.{Owed}
 use Rattle.dir_top.specs.declared.state.State.{State}
 use Rattle.dir_top.specs.State.{still_waits}
@@ -110,3 +112,11 @@ vector_text n _ = []
 abbrev pub dump_text : ℕ → Happened → List ℕ
 dump_text n (what.Dumped entries) = output_line (out.Dumped n (length entries)) ++ flat_map entry_lines entries
 dump_text n _ = []
+
+-- `audit N present P ..`
+abbrev pub audit_counts : Audit → Counts
+audit_counts a = record { present = a.present; glue = a.glue; conflict = a.conflict; tombstone = a.tombstone; taken = a.taken; pending = a.pending }
+
+abbrev pub audit_text : ℕ → Happened → List ℕ
+audit_text n (what.Audited audit) = output_line (out.Audited n (audit_counts audit))
+audit_text n _ = []

@@ -21,7 +21,7 @@ use Rattle.dir_top.specs.Message.{request_of}
 use Rattle.node_core.specs.Calls.{is_client_write}
 use Rattle.conn_core.specs.Serving.{kind_of}
 use Rattle.dir_top.specs.Serving.{fed}
-use Rattle.dir_top.specs.Report.{start_text, commit_text, settle_text, abort_text, acquire_text, release_text, offer_text, deliver_text, vector_text, dump_text}
+use Rattle.dir_top.specs.Report.{start_text, commit_text, settle_text, abort_text, acquire_text, release_text, offer_text, deliver_text, vector_text, dump_text, audit_text}
 use Rattle.script_text.specs.Line.{line_of}
 use Rattle.dir_top.specs.Output.{LineStep, GoesOn, Refuses, NotBuilt, TooMany, Told, told_of, before_feed, content_of}
 
@@ -46,7 +46,6 @@ abbrev pub is_to_come : Line → Bool
 is_to_come (Pump a b) = true
 is_to_come (Restart n) = true
 is_to_come (Fail n j) = true
-is_to_come (Audit n) = true
 is_to_come line = false
 
 -- Bytes on a connection that is not there are refused as such. (The grammar has no `nodes` of more than 8.)
@@ -89,6 +88,7 @@ names_of (Offer a b) = TheNode a ∷ TheNode b ∷ []
 names_of (Deliver b u) = TheNode b ∷ TheUpdate u ∷ []
 names_of (Vector n) = TheNode n ∷ []
 names_of (Dump n) = TheNode n ∷ []
+names_of (Audit n) = TheNode n ∷ []
 names_of line = []
 
 abbrev pub why_name : State → Name → Option LineWhy
@@ -185,6 +185,7 @@ carried s (Offer a b) = after_event s (event.Offer a b) (offer_text a b)
 carried s (Deliver b u) = after_event s (event.Deliver b u) (deliver_text b u)
 carried s (Vector n) = after_event s (event.Vector n) (vector_text n)
 carried s (Dump n) = after_event s (event.Dump n) (dump_text n)
+carried s (Audit n) = after_event s (event.Audit n) (audit_text n)
 carried s line = (s, [])
 
 -- a line that is built and that nothing refuses

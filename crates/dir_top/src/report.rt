@@ -5,15 +5,15 @@ ghost use Rattle.std.specs.List.{flat_map};
 ghost use Rattle.world_core.specs.Write.{busy, success};
 ghost use Rattle.script_text.specs.Print.{entry_lines};
 ghost use Rattle.script_text.specs.Output.{output_line, reply_line};
-ghost use Rattle.dir_top.specs.Report.{reply_lines, closed_line, out_line, answer_line, owed_line, reply_owed, start_text, commit_text, settle_text, reply_failed, abort_text, acquire_text, release_text, offer_text, deliver_text, vector_text, dump_text};
+ghost use Rattle.dir_top.specs.Report.{reply_lines, closed_line, out_line, answer_line, owed_line, reply_owed, start_text, commit_text, settle_text, reply_failed, abort_text, acquire_text, release_text, offer_text, deliver_text, vector_text, dump_text, audit_counts, audit_text};
 
 use crate::state::{Owed, State};
 use conn_core::{Conn, response};
 use ldap_replies::write_reply;
 use ldap_types::{Code, LdapResult, Reply, ReplyOp};
-use node_core::used_up;
+use node_core::{Audit, used_up};
 use repl_data::{Bytes, Csn, NoMemory, ShownEntry};
-use script_text::{OutputLine, print_entry, print_line, print_reply, print_vector};
+use script_text::{Counts, OutputLine, print_entry, print_line, print_reply, print_vector};
 use std::alloc::Global;
 use world_core::Happened;
 
@@ -347,6 +347,32 @@ pub(crate) fn dump_text(alloc: Global, n: u16, happened: &Happened) -> Result<By
             let mut text = text_of(alloc, OutputLine::Dumped { n, count })?;
             put_entries(alloc, &mut text, entries.as_slice())?;
             Ok(text)
+        }
+        _ => Ok(Bytes::new(alloc)),
+    }
+}
+
+fn audit_counts(audit: Audit) -> Counts
+    ensures { result ≡ audit_counts audit }
+{
+    Counts {
+        present: audit.present,
+        glue: audit.glue,
+        conflict: audit.conflict,
+        tombstone: audit.tombstone,
+        taken: audit.taken,
+        pending: audit.pending,
+    }
+}
+
+/// `audit N present P ..`.
+pub(crate) fn audit_text(alloc: Global, n: u16, happened: &Happened) -> Result<Bytes, NoMemory>
+    ensures { IfOk result (λ text. text ≡ audit_text n happened.now) }
+{
+    match happened {
+        Happened::Audited { audit } => {
+            let counts = audit_counts(*audit);
+            text_of(alloc, OutputLine::Audited { n, counts })
         }
         _ => Ok(Bytes::new(alloc)),
     }

@@ -12,8 +12,8 @@ ghost use Rattle.dir_top.specs.Step.{meant, IsEventLine};
 
 use crate::message::request_of;
 use crate::report::{
-    abort_text, acquire_text, commit_text, deliver_text, dump_text, offer_text, release_text,
-    settle_text, start_text, vector_text,
+    abort_text, acquire_text, audit_text, commit_text, deliver_text, dump_text, offer_text,
+    release_text, settle_text, start_text, vector_text,
 };
 use crate::state::{Connection, Owed, State};
 use crate::why::LineWhy;
@@ -264,6 +264,16 @@ impl State {
         let happened = self.world.step(alloc, Event::Dump { n })?;
         Ok(Step::GoesOn(dump_text(alloc, n, &happened)?))
     }
+
+    fn audit(&mut self, alloc: Global, n: u16) -> Result<Step, NoMemory>
+        ensures { IfOk result (λ step. line_step (Some self.old) (Line.Audit n) ≡ meant step (Some self.new)) }
+    {
+        if let Some(why) = self.no_node(n) {
+            return Ok(Step::Refuses(why));
+        }
+        let happened = self.world.step(alloc, Event::Audit { n })?;
+        Ok(Step::GoesOn(audit_text(alloc, n, &happened)?))
+    }
 }
 
 impl State {
@@ -416,6 +426,7 @@ impl State {
             Line::Deliver { b, u } => self.deliver(alloc, *b, *u),
             Line::Vector { n } => self.vector(alloc, *n),
             Line::Dump { n } => self.dump(alloc, *n),
+            Line::Audit { n } => self.audit(alloc, *n),
             _ => Ok(Step::NotBuilt),
         }
     }
@@ -474,7 +485,7 @@ fn is_to_come(line: &Line) -> bool
     ensures { result ≡ is_to_come line.now }
 {
     match line {
-        Line::Pump { .. } | Line::Restart { .. } | Line::Fail { .. } | Line::Audit { .. } => true,
+        Line::Pump { .. } | Line::Restart { .. } | Line::Fail { .. } => true,
         _ => false,
     }
 }

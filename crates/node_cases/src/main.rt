@@ -15,6 +15,7 @@ use node_core::NodeState;
 use repl_data::NoMemory;
 use std::alloc::Global;
 use std::process::ExitCode;
+use told::tell_audit;
 use world_core::AtNode;
 
 /// What is asked: the last that was made of each.
@@ -38,7 +39,8 @@ impl Parts {
         })
     }
 
-    /// `node new RID` makes a node, and any other call is one of it.
+    /// `node new RID` makes a node, `node audit` tells how many entries, changes and pending CSNs it has, and any other
+    /// call is one of it.
     fn ask_node(
         &mut self,
         alloc: Global,
@@ -49,6 +51,9 @@ impl Parts {
         if call == "new" {
             self.node = node::next_node(alloc, fields)?;
             return Ok(());
+        }
+        if call == "audit" {
+            return tell_audit(told, self.node.audit());
         }
         node::ask(alloc, &mut self.node, call, fields, told)
     }

@@ -2,7 +2,7 @@
 
 use case_changes::{tell_csn, tell_uid};
 use case_lines::CaseFault;
-use node_core::{AcquireFault, Applied, ApplyFault, BeginFault};
+use node_core::{AcquireFault, Applied, ApplyFault, Audit, BeginFault};
 use repl_data::Csn;
 use std::fmt::Write;
 
@@ -89,6 +89,24 @@ pub fn tell_begun(told: &mut String, answer: Result<Csn, BeginFault>) -> Result<
         }
         Err(BeginFault::NoMemory) => Err(CaseFault::NoMemory),
     }
+}
+
+/// Tells what is counted.
+pub fn tell_audit(told: &mut String, audit: Audit) -> Result<(), CaseFault> {
+    let Audit {
+        present,
+        glue,
+        conflict,
+        tombstone,
+        taken,
+        pending,
+    } = audit;
+    write!(told, "present {present} glue {glue} conflict {conflict}")?;
+    write!(
+        told,
+        " tombstone {tombstone} taken {taken} pending {pending}"
+    )?;
+    Ok(())
 }
 
 /// Tells `yes` or `no`.

@@ -2,11 +2,12 @@
 //!
 //! - `at R` goes to node R, and `clock R` does, too, and tells the time of the world.
 //! - `empty_has N`: whether a world without nodes has a node N.
+//! - `audit`: how many entries, changes and pending CSNs it has.
 //! - Any other call is one of the node.
 
 use crate::made::suffix;
 use crate::node;
-use crate::told::tell_bool;
+use crate::told::{tell_audit, tell_bool};
 use case_lines::{CaseFault, Fields, or_memory};
 use std::alloc::Global;
 use std::fmt::Write;
@@ -54,6 +55,10 @@ pub fn ask(
             let world = at.into_world();
             write!(told, "{}", world.clock())?;
             at_node(world, n)
+        }
+        "audit" => {
+            tell_audit(told, at.audit())?;
+            Ok(at)
         }
         "at" => at_node(at.into_world(), next_number(fields)?),
         "empty_has" => {

@@ -5,11 +5,14 @@ use Rattle.repl_data.specs.declared.change.Change.{Change}
 use Rattle.repl_data.specs.declared.change.Suffix.{Suffix}
 use Rattle.repl_data.specs.declared.change.Update.{Update}
 use Rattle.repl_data.specs.Order.{csn_le}
+use Rattle.repl_data.specs.View.{view_of}
 use Rattle.vector_core.specs.Greatest.{later_of}
 use Rattle.vector_core.specs.Vector.{entry_of}
 use Rattle.pending_core.specs.declared.generator.Generator.{Generator}
 use Rattle.pending_core.specs.Pending.{is_free}
 use Rattle.change_log.specs.Log.{csns_of, prev_in}
+use Rattle.view_counts.specs.declared.replica.Audit.{Audit}
+use Rattle.view_counts.specs.Audit.{audit_of}
 
 pub record Node : Type 0 where
   pub suffix : Suffix
@@ -61,3 +64,7 @@ vector_of n = raised_by (filter (is_covered n) (csns_of n.taken))
 -- a change as it is sent: with the greatest CSN of its originator that is taken and below it
 abbrev pub update_of : Node → Change → Update
 update_of n c = record { change = c; prev = prev_in n.taken c.csn }
+
+-- its counts: those of the view of what it has taken, of the changes that it has taken, and of its pending CSNs
+abbrev pub audit_at : Node → Audit
+audit_at n = audit_of (view_of n.suffix n.taken) n.taken n.pending

@@ -23,3 +23,4 @@ pub use node::NodeState;
 pub use search_core::Found;
 pub use ticket::{Receipt, Ticket};
 pub use vector_core::{AcquireFault, Applied, ApplyFault, Offer, Start};
+pub use view_counts::Audit;

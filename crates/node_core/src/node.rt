@@ -19,8 +19,8 @@ use pending_core::{Generator, PLACES, PendingList};
 use repl_data::{Change, Csn, NoMemory, Suffix, same_bytes};
 use std::alloc::{AllocError, Global};
 use std::marker::Model;
-use urp_tree::UrpTree;
 use vector_core::{AcquireFault, Start, Vector};
+use view_counts::CountedTree;
 
 /// How far a time of another node may be ahead, in seconds.
 const DAY: u64 = 86_400;
@@ -39,8 +39,8 @@ pub struct NodeState {
     pub(crate) generator: Generator,
     pub(crate) holder: Option<u16>,
     pub(crate) life: u64,
-    /// The view of the log, kept up change by change.
-    pub(crate) view: UrpTree,
+    /// The view of the log and its counts, kept up change by change.
+    pub(crate) view: CountedTree,
 }
 
 impl Model for NodeState {
@@ -61,7 +61,7 @@ impl NodeState {
         requires to_65534 { rid < 65535 }
         ensures { IfOk result (λ n. n ≡ new_node suffix.now rid) }
     {
-        let view = UrpTree::new(alloc, suffix)?;
+        let view = CountedTree::new(alloc, suffix)?;
         Ok(NodeState {
             suffix: copied_suffix(suffix)?,
             rid,

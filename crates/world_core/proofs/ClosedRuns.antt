@@ -14,7 +14,7 @@ use Rattle.node_core.specs.Steps.{NoTicket, Full, Exhausted, Judge, verdict_at, 
 use Rattle.node_core.specs.Sound.{IsOpen}
 use Rattle.node_core.proofs.ClosedSteps.{commit_closed, apply_closed, begin-taken, ended-taken, acquire-taken, released-taken}
 use Rattle.world_core.specs.declared.event.Event.{Event}
-use Rattle.world_core.specs.declared.event.Event.TheVariants.{Clock, Start, Commit, Settle, Abort, Acquire, Release, Offer, Deliver, Vector, Dump}
+use Rattle.world_core.specs.declared.event.Event.TheVariants.{Clock, Start, Commit, Settle, Abort, Acquire, Release, Offer, Deliver, Vector, Dump, Audit}
 use Rattle.world_core.specs.declared.event.Happened.{Happened}
 use Rattle.world_core.specs.World.{World, Ticket, Session, Offered, Outcome, Call, CallBegin, CallCommit, CallEnd, CallAcquire, CallRelease, CallApply, called, Deed, Happens, Calls, after, after_all, node_of, with_node, node_in, is_node, ticket_in, session_in, update_in, new_world, commit_at, release_at, apply_at, step, started, commit_ticket, end_ticket, acquired, acquire_of, offered, offer_in, deliver}
 use Rattle.world_core.specs.Laws.{IsNode, AreTicketsSound, IsLawful, IsFitting, MayCall, MayHappen, May, IsRun, IsSoundJudge, law_of_closed}
@@ -106,6 +106,7 @@ step-arrivals judge sj w (Deliver b u) i s m c =
     if_cases (λ (o : Outcome). AreArrivals o.world.nodes) (is_node w b) _ _ (λ t. deliver-arrivals w b u (update_in w u) refl i (is_node-means w b t) c) (λ f. c)
 step-arrivals judge sj w (Vector n) i s m c = if_cases (λ (o : Outcome). AreArrivals o.world.nodes) (is_node w n) _ _ (λ t. c) (λ f. c)
 step-arrivals judge sj w (Dump n) i s m c = if_cases (λ (o : Outcome). AreArrivals o.world.nodes) (is_node w n) _ _ (λ t. c) (λ f. c)
+step-arrivals judge sj w (Audit n) i s m c = if_cases (λ (o : Outcome). AreArrivals o.world.nodes) (is_node w n) _ _ (λ t. c) (λ f. c)
 
 pub after-arrivals : (judge : Judge) → IsSoundJudge judge → (w : World) (d : Deed) → May w d → IsLawful w → AreArrivals w.nodes → AreArrivals (after judge w d).nodes
 after-arrivals judge sj w (Happens event) m l c = step-arrivals judge sj w event (ready w l) l.tickets m c

@@ -17,7 +17,7 @@ use Rattle.node_core.proofs.Draws.{None-Some}
 use Rattle.node_core.proofs.Alone.{begin-alone, ended-alone, commit-alone, acquire-alone, released-alone}
 use Rattle.node_core.proofs.Offers.{IsOffer, offer-is}
 use Rattle.world_core.specs.declared.event.Event.{Event}
-use Rattle.world_core.specs.declared.event.Event.TheVariants.{Clock, Start, Commit, Settle, Abort, Acquire, Release, Offer, Deliver, Vector, Dump}
+use Rattle.world_core.specs.declared.event.Event.TheVariants.{Clock, Start, Commit, Settle, Abort, Acquire, Release, Offer, Deliver, Vector, Dump, Audit}
 use Rattle.world_core.specs.declared.event.Happened.{Happened}
 use Rattle.world_core.specs.World.{World, Ticket, Session, Offered, Outcome, Call, CallBegin, CallCommit, CallEnd, CallAcquire, CallRelease, CallApply, called, Deed, Happens, Calls, after, node_in, is_node, updates_of, ticket_in, session_in, update_in, begin_at, commit_at, end_at, acquire_at, release_at, apply_at, step, started, commit_ticket, end_ticket, acquired, acquire_of, offering, offered, offer_in, deliver}
 use Rattle.world_core.specs.Laws.{IsNode, AreSound, AreTicketsSound, IsFitting, MayCall, MayHappen, May, IsHonestCall, IsHonestDeed}
@@ -157,6 +157,7 @@ step-advances judge w (Deliver b u) i s m =
     if_cases (λ (o : Outcome). Advances (Unit {0}) w o.world) (is_node w b) _ _ (λ t. deliver-advances w b u (update_in w u) refl i (is_node-means w b t)) (λ f. stands w i)
 step-advances judge w (Vector n) i s m = if_cases (λ (o : Outcome). Advances (Unit {0}) w o.world) (is_node w n) _ _ (λ t. stands w i) (λ f. stands w i)
 step-advances judge w (Dump n) i s m = if_cases (λ (o : Outcome). Advances (Unit {0}) w o.world) (is_node w n) _ _ (λ t. stands w i) (λ f. stands w i)
+step-advances judge w (Audit n) i s m = if_cases (λ (o : Outcome). Advances (Unit {0}) w o.world) (is_node w n) _ _ (λ t. stands w i) (λ f. stands w i)
 
 -- ---- one deed
 

@@ -20,7 +20,7 @@ use Rattle.node_core.specs.Node.{Node}
 use Rattle.ldap_rules.specs.Laws.{change_at}
 use Rattle.node_core.specs.Steps.{NoTicket, Full, Exhausted, Judge, judge_view, begin_answer, offer, CommitAnswer, Stale, Refused, CommitExhausted, KeeperFailed, Committed, commit_answer, judged, with_csn, written, after_commit}
 use Rattle.world_core.specs.declared.event.Event.{Event}
-use Rattle.world_core.specs.declared.event.Event.TheVariants.{Clock, Start, Commit, Settle, Abort, Acquire, Release, Offer, Deliver, Vector, Dump}
+use Rattle.world_core.specs.declared.event.Event.TheVariants.{Clock, Start, Commit, Settle, Abort, Acquire, Release, Offer, Deliver, Vector, Dump, Audit}
 use Rattle.world_core.specs.declared.event.Happened.{Happened}
 use Rattle.world_core.specs.declared.event.Happened.TheVariants as what
 use Rattle.world_core.specs.World.{World, Ticket, Session, Offered, Outcome, Call, CallBegin, CallCommit, CallEnd, CallAcquire, CallRelease, CallApply, Happens, Calls, called, node_of, with_node, node_in, is_node, new_world, ticket_in, with_ticket, new_ticket, session_in, update_in, ticket_verdict, ticket_answer, step, started, ticket_after, commit_ticket, end_ticket, acquired, acquire_of, offered, offer_in, deliver}
@@ -145,6 +145,7 @@ step-joins judge w (Offer a b) k m =
 step-joins judge w (Deliver b u) k m = if_cases (λ (o : Outcome). Joins w o.world) (is_node w b) _ _ (λ e. deliver-joins w b (update_in w u)) (λ f t c. inl c)
 step-joins judge w (Vector n) k m = if_cases (λ (o : Outcome). Joins w o.world) (is_node w n) _ _ (λ e t c. inl c) (λ f t c. inl c)
 step-joins judge w (Dump n) k m = if_cases (λ (o : Outcome). Joins w o.world) (is_node w n) _ _ (λ e t c. inl c) (λ f t c. inl c)
+step-joins judge w (Audit n) k m = if_cases (λ (o : Outcome). Joins w o.world) (is_node w n) _ _ (λ e t c. inl c) (λ f t c. inl c)
 
 pub step-kept : (w : World) (event : Event) → IsKept w → MayHappen w event → IsKept (step judge_view w event).world
 step-kept w event k m = record {

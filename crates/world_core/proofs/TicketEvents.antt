@@ -17,7 +17,7 @@ use Rattle.node_core.proofs.Draws.{draw-above, reached_below, begun-drawn}
 use Rattle.node_core.proofs.NodeSteps.{drawn-above}
 use Rattle.node_core.proofs.Spares.{Spares, Unused, IsThat, IsEnded, CommitLeaves, begin-spares, ended-spares, acquire-spares, released-spares, apply-spares, commit_leaves}
 use Rattle.world_core.specs.declared.event.Event.{Event}
-use Rattle.world_core.specs.declared.event.Event.TheVariants.{Clock, Start, Commit, Settle, Abort, Acquire, Release, Offer, Deliver, Vector, Dump}
+use Rattle.world_core.specs.declared.event.Event.TheVariants.{Clock, Start, Commit, Settle, Abort, Acquire, Release, Offer, Deliver, Vector, Dump, Audit}
 use Rattle.world_core.specs.declared.event.Happened.{Happened}
 use Rattle.world_core.specs.World.{World, Ticket, Session, Offered, Outcome, CallBegin, CallCommit, CallEnd, CallAcquire, CallRelease, CallApply, Deed, Happens, Calls, after, node_of, with_node, node_in, is_node, ticket_in, without_ticket, with_ticket, new_ticket, session_in, update_in, ticket_verdict, ticket_answer, apply_at, step, started, ticket_after, commit_ticket, end_ticket, acquired, acquire_of, release, offered, offer_in, deliver}
 use Rattle.node_core.specs.Calls.{IsWrite}
@@ -190,6 +190,7 @@ step-tickets judge w (Deliver b u) i m s =
     if_cases (λ (o : Outcome). SoundAfter o.world) (is_node w b) _ _ (λ t. deliver-tickets w b u (update_in w u) refl i (is_node-means w b t) s) (λ f. s)
 step-tickets judge w (Vector n) i m s = if_cases (λ (o : Outcome). SoundAfter o.world) (is_node w n) _ _ (λ t. s) (λ f. s)
 step-tickets judge w (Dump n) i m s = if_cases (λ (o : Outcome). SoundAfter o.world) (is_node w n) _ _ (λ t. s) (λ f. s)
+step-tickets judge w (Audit n) i m s = if_cases (λ (o : Outcome). SoundAfter o.world) (is_node w n) _ _ (λ t. s) (λ f. s)
 
 pub after-tickets : (judge : Judge) (w : World) (deed : Deed) → IsReady w → May w deed → SoundAfter w → AreTicketsSound (after judge w deed).nodes (after judge w deed).tickets
 after-tickets judge w (Happens event) i m s = step-tickets judge w event i m s

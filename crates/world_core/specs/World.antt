@@ -11,13 +11,13 @@ use Rattle.ldap_rules.specs.Verdict.{Verdict}
 use Rattle.vector_core.specs.declared.answers.Applied.{Applied}
 use Rattle.vector_core.specs.declared.answers.ApplyFault.{ApplyFault}
 use Rattle.vector_core.specs.declared.answers.AcquireFault.{AcquireFault}
-use Rattle.node_core.specs.Node.{Node, new_node, raised, vector_of}
+use Rattle.node_core.specs.Node.{Node, new_node, raised, vector_of, audit_at}
 use Rattle.node_core.specs.Steps.{NoTicket, Full, Exhausted, Judge, verdict_at, csn_at, begin_answer, after_begin, CommitAnswer, Stale, Refused, CommitExhausted, KeeperFailed, Committed, commit_answer, after_commit, ended, offer, apply_answer, after_apply, acquire_fault, after_acquire, released}
 pub use Rattle.node_core.specs.Answers.{used_up}
 pub use Rattle.world_core.specs.declared.parts.Session.{Session}
 pub use Rattle.world_core.specs.declared.parts.Offered.{Offered}
 use Rattle.world_core.specs.declared.event.Event.{Event}
-use Rattle.world_core.specs.declared.event.Event.TheVariants.{Clock, Start, Commit, Settle, Abort, Acquire, Release, Offer, Deliver, Vector, Dump}
+use Rattle.world_core.specs.declared.event.Event.TheVariants.{Clock, Start, Commit, Settle, Abort, Acquire, Release, Offer, Deliver, Vector, Dump, Audit}
 use Rattle.world_core.specs.declared.event.Happened.{Happened}
 use Rattle.world_core.specs.declared.event.Happened.TheVariants as what
 
@@ -255,6 +255,7 @@ step judge w (Offer a b) = if is_node w a && is_node w b then offer_in w a (sess
 step judge w (Deliver b u) = if is_node w b then deliver w b (update_in w u) else nothing_such w
 step judge w (Vector n) = told w n (what.Front (vector_of (node_in w n)))
 step judge w (Dump n) = told w n (what.Dumped (dump_of (view_of (node_in w n).suffix (node_in w n).taken)))
+step judge w (Audit n) = told w n (what.Audited (audit_at (node_in w n)))
 
 -- ---- calls: what a connection at node r does, by the same steps of the node
 

@@ -1,6 +1,8 @@
 //! A node of a world, reached by the calls of a node.
 
 ghost use Rattle.std.specs.Prelude.{◌≡◌, ◌<◌, true};
+ghost use Rattle.node_core.specs.Node.{audit_at};
+ghost use Rattle.world_core.specs.At.{reached};
 ghost use Rattle.world_core.specs.World.{is_node};
 
 use crate::nodes::{
@@ -10,8 +12,8 @@ use crate::state::WorldState;
 use crate::world::World;
 use ldap_types::{Identity, Request, SearchRequest};
 use node_core::{
-    AcquireFault, Applied, ApplyFault, BeginFault, CommitFault, Found, NodeCalls, Offer, Receipt,
-    Start, Ticket,
+    AcquireFault, Applied, ApplyFault, Audit, BeginFault, CommitFault, Found, NodeCalls, Offer,
+    Receipt, Start, Ticket,
 };
 use repl_data::{Csn, NoMemory, Update};
 use std::alloc::Global;
@@ -74,6 +76,13 @@ impl AtNode {
             state: world.into_state(),
             n,
         }
+    }
+
+    /// The counts of what the node has. Takes constant time.
+    pub fn audit(&self) -> Audit
+        ensures { result ≡ audit_at (reached self.now) }
+    {
+        node_at(self.state.nodes.as_slice(), self.n).audit()
     }
 
     /// The world, as the calls of the node left it.

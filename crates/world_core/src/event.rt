@@ -1,7 +1,7 @@
 //! Events, and what becomes of them.
 
 use ldap_types::{Identity, LdapResult, Request};
-use node_core::{AcquireFault, Applied, ApplyFault};
+use node_core::{AcquireFault, Applied, ApplyFault, Audit};
 use repl_data::{Csn, Items, ShownEntryList};
 
 /// A list of CSNs.
@@ -61,6 +61,10 @@ pub enum Event {
     Dump {
         n: u16,
     },
+    /// The counts of node `n` are asked for.
+    Audit {
+        n: u16,
+    },
 }
 
 /// What became of an event.
@@ -92,4 +96,5 @@ pub enum Happened {
     Front { csns: CsnList },
     /// Parents first, and siblings in order of shown relative name.
     Dumped { entries: ShownEntryList },
+    Audited { audit: Audit },
 }

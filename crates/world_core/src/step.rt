@@ -40,6 +40,7 @@ impl WorldState {
             Event::Deliver { b, u } => self.deliver(alloc, b, u),
             Event::Vector { n } => self.vector(alloc, n),
             Event::Dump { n } => self.dump(alloc, n),
+            Event::Audit { n } => Ok(self.audit(n)),
         }
     }
 }

@@ -1,8 +1,8 @@
-//! What is asked of a node: its vector, its entries.
+//! What is asked of a node: its vector, its entries, its counts.
 
 ghost use Rattle.std.specs.Prelude.{◌≡◌, IfOk};
 ghost use Rattle.repl_data.specs.View.{view_of, dump_of};
-ghost use Rattle.node_core.specs.Node.{vector_of};
+ghost use Rattle.node_core.specs.Node.{vector_of, audit_at};
 ghost use Rattle.node_core.specs.Steps.{judge_view};
 ghost use Rattle.world_core.specs.declared.event.Event.{Event};
 ghost use Rattle.world_core.specs.World.{node_in, step};
@@ -12,6 +12,7 @@ ghost use Rattle.world_core.specs.State.{world_of};
 use crate::event::{CsnList, Happened};
 use crate::nodes::node_at;
 use crate::state::WorldState;
+use node_core::Audit;
 use repl_data::{NoMemory, ShownEntryList};
 use std::alloc::Global;
 
@@ -31,6 +32,14 @@ impl WorldState {
         ensures { IfOk result (λ entries. entries ≡ dump_of (view_of (node_in (world_of self.now) n).suffix (node_in (world_of self.now) n).taken)) }
     {
         node_at(self.nodes.as_slice(), n).dump(alloc)
+    }
+
+    /// The counts of node `n`, which there is.
+    fn audit_at(&self, n: u16) -> Audit
+        requires { IsNode self.now.nodes.items n }
+        ensures { result ≡ audit_at (node_in (world_of self.now) n) }
+    {
+        node_at(self.nodes.as_slice(), n).audit()
     }
 
     /// The vector of node `n` is asked for.
@@ -53,5 +62,16 @@ impl WorldState {
         }
         let entries = self.dump_at(alloc, n)?;
         Ok(Happened::Dumped { entries })
+    }
+
+    /// The counts of node `n` are asked for.
+    pub fn audit(&self, n: u16) -> Happened
+        ensures { step judge_view (world_of self.now) (Event.Audit n) ≡ record { world = world_of self.now; happened = result } }
+    {
+        if !self.has_node(n) {
+            return Happened::NoSuch;
+        }
+        let audit = self.audit_at(n);
+        Happened::Audited { audit }
     }
 }

@@ -1,0 +1,4 @@
+pub mod Sums
+pub mod Counted
+pub mod Moved
+pub mod Trees

@@ -1,0 +1,4 @@
+pub mod Counts
+pub mod Tally
+pub mod Planned
+pub mod Audit
