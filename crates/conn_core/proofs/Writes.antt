@@ -9,6 +9,7 @@ use Rattle.node_core.specs.declared.fault.BeginFault.{BeginFault}
 use Rattle.node_core.specs.declared.fault.CommitFault.{CommitFault}
 use Rattle.node_core.specs.declared.ticket.Ticket.{Ticket}
 use Rattle.node_core.specs.declared.ticket.Receipt.{Receipt}
+use Rattle.node_core.specs.Calls.{Asked, commit_asked}
 use Rattle.node_core.specs.Node.{Node}
 use Rattle.node_core.specs.Steps.{judge_view}
 use Rattle.conn_core.specs.Serving.{Reach, IsCall, IsBegun, IsCommitted, IsEnded, IsWritten, not_begun, settled, aborted, begin_result, commit_result, IsTold}
@@ -29,8 +30,8 @@ pub receipt_life : {N : Type 0} (c : Reach N) (now : ℕ) (bound : Identity) (re
 receipt_life c now bound request ticket old new receipt k = k.step.1 ∙ sym (commits_life judge_view (c.met old new) (c.node new) ticket request bound now (Ok receipt) k.step)
 
 -- a ticket that was just begun is of the life that its commit meets
-pub ticket_life : {N : Type 0} (c : Reach N) (now : ℕ) (old begun next : N) (ticket : Ticket) → IsBegun c now old begun (Ok ticket) → IsCall c begun next → ticket.life ≡ (c.met begun next).life
-ticket_life c now old begun next ticket b k = b.step.1 ∙ sym (begun_life (c.met old begun) (c.node begun) now (Ok ticket) b.step) ∙ sym k.life
+pub ticket_life : {N : Type 0} (c : Reach N) (now : ℕ) (old begun next : N) (ticket : Ticket) (asked : Asked) → IsBegun c now old begun (Ok ticket) → IsCall c asked begun next → ticket.life ≡ (c.met begun next).life
+ticket_life c now old begun next ticket asked b k = b.step.1 ∙ sym (begun_life (c.met old begun) (c.node begun) now (Ok ticket) b.step) ∙ sym k.life
 
 -- ---- what is answered
 
@@ -45,5 +46,5 @@ by_settle c now bound request old begun committed new ticket receipt b k e = set
 
 pub by_abort : {N : Type 0} (c : Reach N) (now : ℕ) (bound : Identity) (request : Request) (old begun committed new : N) (ticket back : Ticket) (fault : CommitFault) (answer : Result LdapResult NoMemory) → IsBegun c now old begun (Ok ticket) → IsCommitted c now bound request ticket begun committed (Err (back, fault)) → IsEnded c back.life back.csn committed new → ((x : LdapResult) → commit_result fault ≡ Some x → IsTold x answer) → WrittenAs c now bound request old new answer
 by_abort c now bound request old begun committed new ticket back fault answer b k e told =
-    let x = fault_told judge_view (c.met begun committed) (c.node committed) ticket back request bound now fault (ticket_life c now old begun committed ticket b k.call) k.step in
+    let x = fault_told judge_view (c.met begun committed) (c.node committed) ticket back request bound now fault (ticket_life c now old begun committed ticket (commit_asked (Err (back, fault))) b k.call) k.step in
     (x.0, aborted ticket back fault x.0 begun committed b k x.1 e, told x.0 x.1)

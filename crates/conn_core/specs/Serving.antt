@@ -37,7 +37,7 @@ use Rattle.node_core.specs.declared.ticket.Receipt.{Receipt}
 use Rattle.node_core.specs.Answers.{used_up}
 use Rattle.node_core.specs.Searches.{searched}
 use Rattle.node_core.specs.Steps.{judge_view, ended}
-use Rattle.node_core.specs.Calls.{Begins, Commits, CommitCause, is_client_write}
+use Rattle.node_core.specs.Calls.{NotAsked, commit_asked, Begins, Commits, CommitCause, is_client_write}
 pub use Rattle.node_core.specs.Calls.{Reach, IsCall}
 
 -- ---- which requests are built
@@ -156,18 +156,18 @@ commit_result commit.KeeperFault = Some (result_of 52)
 
 -- one begins a ticket
 pub record IsBegun {N : Type 0} (c : Reach N) (now : ℕ) (old new : N) (answer : Result Ticket BeginFault) : Type 0 where
-  pub call : IsCall c old new
+  pub call : IsCall c NotAsked old new
   pub step : Begins (c.met old new) now answer (c.node new)
 
 -- one commits it
 pub record IsCommitted {N : Type 0} (c : Reach N) (now : ℕ) (bound : Identity) (request : Request) (ticket : Ticket) (old new : N) (answer : Result Receipt (Ticket × CommitFault)) : Type 0 where
-  pub call : IsCall c old new
+  pub call : IsCall c (commit_asked answer) old new
   pub step : Commits judge_view (c.met old new) ticket request bound now answer (c.node new)
   pub cause : CommitCause (c.faults old) (c.faults new) answer
 
 -- one settles or aborts it
 pub record IsEnded {N : Type 0} (c : Reach N) (life : ℕ) (csn : Csn) (old new : N) : Type 0 where
-  pub call : IsCall c old new
+  pub call : IsCall c NotAsked old new
   pub step : c.node new ≡ ended (c.met old new) life csn
 
 -- A WRITE: it begins, it is committed, and then it is settled, or aborted where it was not committed.
@@ -187,7 +187,7 @@ has_critical controls = list_any is_critical controls
 
 -- one searches: its answer is that of the view and the vector that the call shows, and the node is left as it was met
 pub record IsSearched {N : Type 0} (c : Reach N) (request : SearchRequest) (old new : N) (answer : Result Found NoMemory) : Type 0 where
-  pub call : IsCall c old new
+  pub call : IsCall c NotAsked old new
   pub left : c.node new ≡ c.met old new
   pub step : IfOk answer (λ (found : Found). found ≡ searched (c.shown old new) request)
 

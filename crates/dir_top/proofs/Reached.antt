@@ -188,7 +188,7 @@ module _ (s : State) (lawful : IsLawful s.world) where
   carries (line.Deliver c u) b w = leads-event judge_view s.world (event.Deliver c u) tt
   carries (line.Pump a c) b w = absurd (true≢false (sym b))
   carries (line.Restart n) b w = absurd (true≢false (sym b))
-  carries (line.Fail n j) b w = absurd (true≢false (sym b))
+  carries (line.Fail n j) b w = leads-event judge_view s.world (event.Fail n j) tt
   carries (line.Vector n) b w = leads-event judge_view s.world (event.Vector n) tt
   carries (line.Dump n) b w = leads-event judge_view s.world (event.Dump n) tt
   carries (line.Audit n) b w = leads-event judge_view s.world (event.Audit n) tt

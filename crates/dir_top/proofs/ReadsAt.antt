@@ -9,8 +9,8 @@ use Rattle.ldap_types.specs.declared.reply.LdapResult.{LdapResult}
 use Rattle.search_core.specs.declared.found.Found.{Found}
 use Rattle.node_core.specs.Searches.{sight_of, searched}
 use Rattle.world_core.specs.World.{World, node_in, put}
-use Rattle.world_core.specs.At.{At, at_reach}
-use Rattle.world_core.proofs.Outcomes.{same_node}
+use Rattle.world_core.specs.At.{At, at_reach, kept_by, reached}
+use Rattle.world_core.proofs.OneOf.{both_alone, same_node}
 use Rattle.conn_core.specs.Serving.{IsSearched, or_other, Searches, search_refused, search_answered, Compares, compare_refused, compare_nothing, compare_unasked, compare_asked, compare_search, compare_result, IsComparedBy}
 use Rattle.dir_top.specs.Serving.{search_answer, compare_answer}
 use Rattle.dir_top.proofs.WritesAt.{IsNotStarved}
@@ -19,7 +19,7 @@ use Rattle.dir_top.proofs.WritesAt.{IsNotStarved}
 search-stays : (q : SearchRequest) (old new : At) (answer : Result Found NoMemory) → IsSearched at_reach q old new answer → new ≡ old
 search-stays q old new answer s =
     let w : new.world ≡ old.world =
-    s.call.beside.world ∙ ap (λ m. put old.world old.n m) s.left ∙ ap (λ ns. record old.world { nodes = ns }) (same_node old.world.nodes old.n) in
+    both_alone old.world new.world old.n (reached new) (kept_by new) s.call.beside.world s.call.beside.keeper ∙ ap (λ m. put old.world old.n m) s.left ∙ ap (λ ns. record old.world { nodes = ns }) (same_node old.world.nodes old.n) in
     ap (λ (x : World). let a : At = record { world = x; n = new.n } in a) w
     ∙ ap (λ (m : ℕ). let a : At = record { world = old.world; n = m } in a) s.call.beside.same
 

@@ -1,6 +1,6 @@
 -- A write by the calls of a world's node is the write of its world.
-use Rattle.std.proofs.Common.{◌≡◌, ℕ, ◌≤◌, List, Some, None, refl, sym, ap, subst, ◌∙◌, arith}
-use Rattle.std.specs.Prelude.{◌≢◌, Result, Ok, Err, IsSome, IfSome}
+use Rattle.std.proofs.Common.{◌≡◌, ℕ, Some, None, refl, sym, ap, subst, ◌∙◌}
+use Rattle.std.specs.Prelude.{Result, Ok, Err, IsSome, IfSome}
 use Rattle.repl_data.specs.declared.csn.Csn.{Csn}
 use Rattle.ldap_types.specs.declared.request.Request.{Request}
 use Rattle.ldap_types.specs.declared.reply.Identity.{Identity}
@@ -14,17 +14,18 @@ use Rattle.node_core.specs.declared.fault.CommitFault.TheVariants as commit
 use Rattle.node_core.specs.declared.ticket.Ticket.{Ticket}
 use Rattle.node_core.specs.declared.ticket.Receipt.{Receipt}
 use Rattle.node_core.specs.Node.{Node}
-use Rattle.node_core.specs.Steps.{NoTicket, Full, Exhausted, judge_view, verdict_at, begin_answer, after_begin}
-use Rattle.node_core.specs.Calls.{CommitCause, CommitsUnder}
-use Rattle.world_core.specs.World.{World, node_in, with_node, put, begin_at}
+use Rattle.node_core.specs.Steps.{NoTicket, Full, Exhausted, judge_view, verdict_at, begin_answer, after_begin, ended}
+use Rattle.node_core.specs.Calls.{CommitsUnder}
+use Rattle.world_core.specs.Nodes.{IsOneOf, KeptNodes, with_one}
+use Rattle.world_core.specs.World.{World, keeper_in, node_in, put, put_both, begin_at}
 use Rattle.world_core.specs.Write.{busy, success, written_from, write_in}
 use Rattle.world_core.specs.At.{At, at_reach}
 use Rattle.world_core.specs.Held.{answer_of}
 use Rattle.world_core.specs.Laws.{IsNode}
 use Rattle.world_core.proofs.Honest.{with-IsNode}
-use Rattle.world_core.proofs.Outcomes.{same_node}
-use Rattle.world_core.proofs.Failures.{fault-says}
-use Rattle.world_core.proofs.WriteSteps.{IsTold, finish-committed, finish-refused, written-done}
+use Rattle.world_core.proofs.OneOf.{both_alone, kept_nodes, same_node, with_alone, with_kept}
+use Rattle.world_core.proofs.AskedKeepers.{fault-says}
+use Rattle.world_core.proofs.WriteSteps.{IsTold, finish-committed, finish-failed, written-done}
 use Rattle.conn_core.specs.Serving.{IsBegun, IsCommitted, IsEnded, IsWritten, not_begun, settled, aborted, begin_result, commit_result}
 
 -- no answer for want of memory
@@ -34,9 +35,9 @@ IsNotStarved result = result.code.number ≡ 80 → ⊥
 abbrev pub at : World → ℕ → At
 at w n = record { world = w; n = n }
 
--- a world that differs from another in its nodes alone
-same_rest : (a b : World) (nodes : List Node) → b ≡ record a { nodes = nodes } → record a { nodes = b.nodes } ≡ b
-same_rest a b nodes e = ap (λ ns. record a { nodes = ns }) (ap (λ (x : World). x.nodes) e) ∙ sym e
+-- a world that differs from another in its nodes and keepers alone
+same_rest : (a b : World) (ns : KeptNodes) → b ≡ with_kept a ns → with_kept a (kept_nodes b) ≡ b
+same_rest a b ns e = ap (λ (x : World). with_kept a (kept_nodes x)) e ∙ sym e
 
 some_same : {A : Type 0} {a b : A} → Some a ≡ Some b → a ≡ b
 some_same e = cc
@@ -52,11 +53,11 @@ module _ (w : World) (n : ℕ) (request : Request) (bound : Identity) where
   not_begun-in v begin.Full b fed = ap (λ a. written_from judge_view w n request bound a) b.step.0 ∙ ap (λ x. (x, busy)) (sym (left b.step.1))
     where
       left : node_in v n ≡ node_in w n → v ≡ w
-      left e = b.call.beside.world ∙ ap (λ m. put w n m) e ∙ ap (λ ns. record w { nodes = ns }) (same_node w.nodes n)
+      left e = both_alone w v n (node_in v n) (keeper_in v n) b.call.beside.world b.call.beside.keeper ∙ ap (λ m. put w n m) e ∙ ap (λ ns. record w { nodes = ns }) (same_node w.nodes n)
   not_begun-in v (begin.Exhausted last) b fed = ap (λ a. written_from judge_view w n request bound a) b.step.0 ∙ ap (λ x. (x, begin_result (begin.Exhausted last))) (sym (left b.step.1))
     where
       left : node_in v n ≡ node_in w n → v ≡ w
-      left e = b.call.beside.world ∙ ap (λ m. put w n m) e ∙ ap (λ ns. record w { nodes = ns }) (same_node w.nodes n)
+      left e = both_alone w v n (node_in v n) (keeper_in v n) b.call.beside.world b.call.beside.keeper ∙ ap (λ m. put w n m) e ∙ ap (λ ns. record w { nodes = ns }) (same_node w.nodes n)
 
   -- ---- one was
 
@@ -65,7 +66,7 @@ module _ (w : World) (n : ℕ) (request : Request) (bound : Identity) where
     verdict = verdict_at judge_view (node_in v n) request bound
 
     begun : v ≡ begin_at w n
-    begun = b.call.beside.world ∙ ap (λ m. put w n m) (b.step.2 ∙ ap (λ a. after_begin (node_in w n) a) (sym b.step.0))
+    begun = both_alone w v n (node_in v n) (keeper_in v n) b.call.beside.world b.call.beside.keeper ∙ ap (λ m. put w n m) (b.step.2 ∙ ap (λ a. after_begin (node_in w n) a) (sym b.step.0))
 
     same_clock : v.clock ≡ w.clock
     same_clock = ap (λ (y : World). y.clock) b.call.beside.world
@@ -73,41 +74,45 @@ module _ (w : World) (n : ℕ) (request : Request) (bound : Identity) where
     same_life : ticket.life ≡ (node_in v n).life
     same_life = b.step.1 ∙ sym (ap (λ (m : Node). m.life) b.step.2)
 
-    -- what a commit and an end leave besides the nodes
-    rest : (commits : u ≡ put v n (node_in u n)) → x ≡ put u n (node_in x n) → record v { nodes = x.nodes } ≡ x
-    rest commits ends = same_rest v x (with_node (with_node v.nodes n (node_in u n)) n (node_in x n)) (ends ∙ ap (λ y. put y n (node_in x n)) commits)
+    -- a commit changes node n and its keeper alone
+    one : u ≡ put_both v n (node_in u n) (keeper_in u n) → IsOneOf (kept_nodes v) n (kept_nodes u)
+    one commits = ap kept_nodes commits
+
+    -- and an end changes node n alone
+    ends_so : (life : ℕ) (csn : Csn) → IsEnded at_reach life csn (at u n) (at x n) → x ≡ put u n (node_in x n)
+    ends_so life csn e = both_alone u x n (node_in x n) (keeper_in x n) e.call.beside.world e.call.beside.keeper
+
+    ends_in : (life : ℕ) (csn : Csn) → IsEnded at_reach life csn (at u n) (at x n) → kept_nodes x ≡ with_alone (kept_nodes u) n (ended (node_in u n) life csn)
+    ends_in life csn e = ap kept_nodes (ends_so life csn e) ∙ ap (λ (m : Node). with_alone (kept_nodes u) n m) e.step
+
+    -- what they leave besides
+    rest : u ≡ put_both v n (node_in u n) (keeper_in u n) → x ≡ put u n (node_in x n) → with_kept v (kept_nodes x) ≡ x
+    rest commits ends = same_rest v x (with_alone (with_one (kept_nodes v) n (node_in u n) (keeper_in u n)) n (node_in x n)) (ends ∙ ap (λ y. put y n (node_in x n)) commits)
 
     settled-in : (receipt : Receipt) → IsCommitted at_reach w.clock bound request ticket (at v n) (at u n) (Ok receipt) → IsEnded at_reach receipt.life receipt.csn (at u n) (at x n) → write_in judge_view w n request bound ≡ (x, result_of 0)
     settled-in receipt c e =
         let step = subst (λ t. CommitsUnder (node_in v n) ticket verdict t (Ok receipt) (node_in u n)) (sym same_clock) c.step in
-        let nodes = ap (λ (y : World). y.nodes) e.call.beside.world ∙ ap (λ m. with_node u.nodes n m) e.step in
         written-done w v n request bound ticket.csn x success b.step.0 begun
-        (finish-committed v n ticket receipt verdict u.nodes x.nodes same_life step (ap (λ (y : World). y.nodes) c.call.beside.world) nodes
-        ∙ ap (λ y. (y, success)) (rest c.call.beside.world e.call.beside.world))
-
-    not_keeper : (back : Ticket) (fault : CommitFault) → CommitCause 0 0 (Err (back, fault)) → fault ≢ commit.KeeperFault
-    not_keeper back fault h e = (let r : CommitCause 0 0 (Err (back, commit.KeeperFault)) = subst (λ f. CommitCause 0 0 (Err (back, f))) e h in rose r)
-      where
-        rose : 1 ≤ 0 → ⊥
-        rose q = omega arith
+        (finish-committed v n ticket receipt verdict (kept_nodes u) (kept_nodes x) same_life step c.call.beside.keeper (one c.call.beside.world) (ends_in receipt.life receipt.csn e)
+        ∙ ap (λ y. (y, success)) (rest c.call.beside.world (ends_so receipt.life receipt.csn e)))
 
     -- the result is that of the definitions
-    has_answer : (fault : CommitFault) (result : LdapResult) → fault ≢ commit.KeeperFault → commit_result fault ≡ Some result → IsNotStarved result → IsSome (answer_of fault) × IfSome (answer_of fault) (λ a. IsTold a result)
-    has_answer commit.NoMemory result k e fed = absurd (fed (ap (λ (r : LdapResult). r.code.number) (sym (some_same e))))
-    has_answer (commit.Stale life node_life) result k e fed = absurd (none_some e)
-    has_answer (commit.Refused answer) result k e fed = (refl, sym (some_same e))
-    has_answer (commit.Exhausted last) result k e fed = (refl, sym (some_same e))
-    has_answer commit.KeeperFault result k e fed = absurd (k refl)
+    has_answer : (csn : Csn) (fault : CommitFault) (result : LdapResult) → commit_result fault ≡ Some result → IsNotStarved result → IsSome (answer_of csn fault) × IfSome (answer_of csn fault) (λ a. IsTold a result)
+    has_answer csn commit.NoMemory result e fed = absurd (fed (ap (λ (r : LdapResult). r.code.number) (sym (some_same e))))
+    has_answer csn (commit.Stale life node_life) result e fed = absurd (none_some e)
+    has_answer csn (commit.Refused answer) result e fed = (refl, sym (some_same e))
+    has_answer csn (commit.Exhausted last) result e fed = (refl, sym (some_same e))
+    has_answer csn commit.KeeperFault result e fed = (refl, sym (some_same e))
 
     aborted-in : (back : Ticket) (fault : CommitFault) (result : LdapResult) → IsCommitted at_reach w.clock bound request ticket (at v n) (at u n) (Err (back, fault)) → commit_result fault ≡ Some result → IsEnded at_reach back.life back.csn (at u n) (at x n) → IsNotStarved result → write_in judge_view w n request bound ≡ (x, result)
     aborted-in back fault result c told e fed =
         let step = subst (λ t. CommitsUnder (node_in v n) ticket verdict t (Err (back, fault)) (node_in u n)) (sym same_clock) c.step in
-        let keeper = not_keeper back fault c.cause in
-        let answer = has_answer fault result keeper told fed in
-        let nodes = ap (λ (y : World). y.nodes) e.call.beside.world ∙ ap (λ m. with_node u.nodes n m) e.step in
+        let answer = has_answer back.csn fault result told fed in
         written-done w v n request bound ticket.csn x result b.step.0 begun
-        (finish-refused v n ticket back verdict fault (Ok result) u.nodes x.nodes same_life (fault-says (node_in v n) ticket back verdict v.clock fault (node_in u n) step keeper) (ap (λ (y : World). y.nodes) c.call.beside.world) nodes answer.0 answer.1
-        ∙ ap (λ y. (y, result)) (rest c.call.beside.world e.call.beside.world))
+        (finish-failed v n ticket back verdict fault result (kept_nodes u) (kept_nodes x) same_life
+        (fault-says (node_in v n) (node_in u n) ticket back verdict v.clock (keeper_in v n) (keeper_in u n) fault step c.call.beside.keeper)
+        (one c.call.beside.world) (ends_in back.life back.csn e) answer.0 answer.1
+        ∙ ap (λ y. (y, result)) (rest c.call.beside.world (ends_so back.life back.csn e)))
 
 -- ---- the whole write
 

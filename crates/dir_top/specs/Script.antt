@@ -45,7 +45,6 @@ is_one_write (Some request) = is_client_write request
 abbrev pub is_to_come : Line → Bool
 is_to_come (Pump a b) = true
 is_to_come (Restart n) = true
-is_to_come (Fail n j) = true
 is_to_come line = false
 
 -- Bytes on a connection that is not there are refused as such. (The grammar has no `nodes` of more than 8.)
@@ -86,6 +85,7 @@ names_of (Acquire a b) = TheNode a ∷ TheNode b ∷ []
 names_of (Release a b) = TheNode a ∷ TheNode b ∷ []
 names_of (Offer a b) = TheNode a ∷ TheNode b ∷ []
 names_of (Deliver b u) = TheNode b ∷ TheUpdate u ∷ []
+names_of (Fail n j) = TheNode n ∷ []
 names_of (Vector n) = TheNode n ∷ []
 names_of (Dump n) = TheNode n ∷ []
 names_of (Audit n) = TheNode n ∷ []
@@ -183,6 +183,7 @@ carried s (Acquire a b) = after_event s (event.Acquire a b) (acquire_text a b)
 carried s (Release a b) = after_event s (event.Release a b) (λ h. release_text a b)
 carried s (Offer a b) = after_event s (event.Offer a b) (offer_text a b)
 carried s (Deliver b u) = after_event s (event.Deliver b u) (deliver_text b u)
+carried s (Fail n j) = after_event s (event.Fail n j) (λ h. [])
 carried s (Vector n) = after_event s (event.Vector n) (vector_text n)
 carried s (Dump n) = after_event s (event.Dump n) (dump_text n)
 carried s (Audit n) = after_event s (event.Audit n) (audit_text n)

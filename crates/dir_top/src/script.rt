@@ -245,6 +245,16 @@ impl State {
         Ok(Step::GoesOn(deliver_text(alloc, b, u, &happened)?))
     }
 
+    fn fail(&mut self, alloc: Global, n: u16, j: u32) -> Result<Step, NoMemory>
+        ensures { IfOk result (λ step. line_step (Some self.old) (Line.Fail n j) ≡ meant step (Some self.new)) }
+    {
+        if let Some(why) = self.no_node(n) {
+            return Ok(Step::Refuses(why));
+        }
+        self.world.step(alloc, Event::Fail { n, j })?;
+        Ok(Step::GoesOn(Bytes::new(alloc)))
+    }
+
     fn vector(&mut self, alloc: Global, n: u16) -> Result<Step, NoMemory>
         ensures { IfOk result (λ step. line_step (Some self.old) (Line.Vector n) ≡ meant step (Some self.new)) }
     {
@@ -424,6 +434,7 @@ impl State {
             Line::Release { a, b } => self.release(alloc, *a, *b),
             Line::Offer { a, b } => self.offer(alloc, *a, *b),
             Line::Deliver { b, u } => self.deliver(alloc, *b, *u),
+            Line::Fail { n, j } => self.fail(alloc, *n, *j),
             Line::Vector { n } => self.vector(alloc, *n),
             Line::Dump { n } => self.dump(alloc, *n),
             Line::Audit { n } => self.audit(alloc, *n),
@@ -485,7 +496,7 @@ fn is_to_come(line: &Line) -> bool
     ensures { result ≡ is_to_come line.now }
 {
     match line {
-        Line::Pump { .. } | Line::Restart { .. } | Line::Fail { .. } => true,
+        Line::Pump { .. } | Line::Restart { .. } => true,
         _ => false,
     }
 }

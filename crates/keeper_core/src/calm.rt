@@ -49,6 +49,8 @@ impl CalmKeeper {
 }
 
 impl Keeper for CalmKeeper {
+    ghost use Rattle.keeper_core.specs.Memory.{CalmPuts};
+
     ghost rows = { λ k. Some k };
 
     ghost may_find = { λ k found. found ≡ k };
@@ -56,6 +58,8 @@ impl Keeper for CalmKeeper {
     ghost accepted = { λ k batches. k ≡ after_batches [] batches };
 
     ghost faults = { λ _. 0 };
+
+    ghost puts = { CalmPuts };
 
     ghost settled = { λ k found is. is };
 

@@ -1,6 +1,7 @@
 //! The trait of a keeper, and its faults.
 
-ghost use Rattle.std.specs.Prelude.{◌≡◌, ◌⊎◌, ◌++◌, ◌∷◌, [], List, ℕ, Option, OnOk, OnErr, IfOk};
+ghost use Rattle.std.specs.Prelude.{◌≡◌, ◌⊎◌, ◌++◌, ◌∷◌, [], List, ℕ, Option, Result, OnOk, OnErr, IfOk};
+ghost use Rattle.keeper_core.specs.declared.keeper.KeepFault.{KeepFault};
 ghost use Rattle.keeper_core.specs.declared.row.BatchStep.{BatchStep};
 ghost use Rattle.keeper_core.specs.Accepted.{AreLeft};
 ghost use Rattle.keeper_core.specs.Causes.{AreLeftOf, AreTold, HasCause, Leaves, Reads, Stays};
@@ -36,9 +37,13 @@ pub trait Keeper {
     /// How many faults there were. The count stands still at `u64::MAX`.
     ghost faults: { Self → ℕ };
 
+    /// A batch may be answered so, and leave the keeper so.
+    ghost puts: { Self → List BatchStep → Result (Unit {0}) KeepFault → Self → Type 0 };
+
     /// Takes the steps of the batch one after the other: all of them, or none where the answer is
     /// not Ok.
     fn put_batch(&mut self, alloc: Global, batch: &Batch) -> Result<(), KeepFault>
+        ensures put { puts self.old batch.now result self.new }
         ensures ok { OnOk result (Leaves (rows self.old) (rows self.new) batch.now) }
         ensures err { OnErr result (Stays (rows self.old) (rows self.new)) }
         // After a stop in or behind the call an open finds what it could have found before, or what

@@ -6,7 +6,7 @@ ghost use Rattle.keeper_core.specs.declared.row.BatchStep.{BatchStep};
 ghost use Rattle.keeper_core.specs.Accepted.{HasAccepted};
 ghost use Rattle.keeper_core.specs.Causes.{HasCause, Reads};
 ghost use Rattle.keeper_core.specs.Rows.{IsRising};
-ghost use Rattle.keeper_core.specs.Memory.{after_failed_put, after_failed_read, after_put, after_read, after_short_put, empty_map};
+ghost use Rattle.keeper_core.specs.Memory.{after_failed_put, after_failed_read, after_put, after_read, empty_map};
 
 use crate::keeper::{KeepFault, Keeper};
 use crate::row::{Batch, Row, RowList};
@@ -102,6 +102,8 @@ impl MapKeeper {
 }
 
 impl Keeper for MapKeeper {
+    ghost use Rattle.keeper_core.specs.Memory.{MapPuts};
+
     ghost rows = { λ k. Some k.rows };
 
     ghost may_find = { λ k found. found ≡ k.rows };
@@ -110,29 +112,33 @@ impl Keeper for MapKeeper {
 
     ghost faults = { λ k. k.faults };
 
+    ghost puts = { MapPuts };
+
     ghost settled = { λ k found is. is };
 
     ghost left = { λ k batches is. is.left };
 
     /// Fails exactly in the batches whose numbers are listed. The list is looked through in each
-    /// call. Each step costs a search by halves, and a move of the rows behind where their number
+    /// call. A batch for which memory is wanting is none that came. Each step costs a search by halves, and a move of the rows behind where their number
     /// changes.
     fn put_batch(&mut self, _alloc: Global, batch: &Batch) -> Result<(), KeepFault>
         ensures failing { (result ≡ Err KeepFault.Failed) ↔ NextFails self.old.failing_batches self.old.batches }
         ensures ok { OnOk result (self.new ≡ after_put self.old batch.now) }
         ensures failed { result ≡ Err KeepFault.Failed → self.new ≡ after_failed_put self.old }
-        ensures short { result ≡ Err KeepFault.NoMemory → self.new ≡ after_short_put self.old }
+        ensures short { result ≡ Err KeepFault.NoMemory → self.new ≡ self.old }
         ensures accepted { OnOk result ((batches : List (List BatchStep)) → HasAccepted self.old batches → HasAccepted self.new (batches ++ batch.now ∷ [])) }
         ensures refused { OnErr result ((batches : List (List BatchStep)) → HasAccepted self.old batches → HasAccepted self.new batches) }
         ensures cause { HasCause self.old.faults self.new.faults result }
     {
-        self.batches = self.batches.saturating_add(1);
-        if self.failing_batches.as_slice().contains(&self.batches) {
+        let number = self.batches.saturating_add(1);
+        if self.failing_batches.as_slice().contains(&number) {
+            self.batches = number;
             self.faults = self.faults.saturating_add(1);
             return Err(KeepFault::Failed);
         }
         match put_all(&mut self.rows, batch) {
             Ok(()) => {
+                self.batches = number;
                 self.kept = self.kept.saturating_add(1);
                 Ok(())
             }

@@ -15,7 +15,7 @@ use case_lines::{CaseFault, Fields, or_memory, tell_bytes};
 use conn_core::{Conn, Fed, NodeMachine};
 use io_edge::{Machine, SetClock};
 use ldap_types::Identity;
-use node_core::{NodeCalls, NodeState};
+use node_core::{MapKeeper, NodeCalls, NodeState};
 use repl_data::{Bytes, NoMemory};
 use std::alloc::Global;
 use std::fmt::Write;
@@ -101,7 +101,7 @@ fn tell_of(conn: &Conn, call: &str, told: &mut String) -> Result<(), CaseFault> 
 }
 
 /// A machine of a new connection to a new node.
-pub fn machine(alloc: Global) -> Result<NodeMachine<NodeState, SetClock>, CaseFault> {
+pub fn machine(alloc: Global) -> Result<NodeMachine<NodeState<MapKeeper>, SetClock>, CaseFault> {
     let conn = or_memory(Conn::new(alloc))?;
     let node = or_memory(made::node(alloc, 1))?;
     Ok(NodeMachine::new(conn, node, SetClock::new(100)))

@@ -1,7 +1,8 @@
-//! Cases of single nodes, of a node of a world, of connections and of machines.
+//! Cases of single nodes and their keepers, of a node of a world, of connections and of machines.
 #![tactic(auto)]
 
 mod connection;
+mod keeper;
 mod made;
 mod node;
 mod stream;
@@ -11,7 +12,7 @@ mod world;
 use case_lines::{CaseFault, Fields, Subjects, or_memory, run_cases};
 use conn_core::{Conn, NodeMachine};
 use io_edge::SetClock;
-use node_core::NodeState;
+use node_core::{MapKeeper, NodeState};
 use repl_data::NoMemory;
 use std::alloc::Global;
 use std::process::ExitCode;
@@ -21,10 +22,10 @@ use world_core::AtNode;
 /// What is asked: the last that was made of each.
 #[derive(Drop)]
 struct Parts {
-    node: NodeState,
+    node: NodeState<MapKeeper>,
     at: Option<AtNode>,
     conn: Conn,
-    machine: Option<NodeMachine<NodeState, SetClock>>,
+    machine: Option<NodeMachine<NodeState<MapKeeper>, SetClock>>,
     stream: Vec<u8>,
 }
 
@@ -129,6 +130,7 @@ impl Subjects for Parts {
     ) -> Result<(), CaseFault> {
         match subject {
             "node" => self.ask_node(alloc, fields, told),
+            "keeper" => keeper::ask(alloc, &mut self.node, fields, told),
             "world" => self.ask_world(alloc, fields, told),
             "conn" => self.ask_conn(alloc, fields, told),
             "machine" => self.ask_machine(alloc, fields, told),

@@ -11,25 +11,17 @@ use crate::made;
 use crate::told::{tell_acquired, tell_applied, tell_begun, tell_csns};
 use case_changes::{next_change, next_csn};
 use case_lines::{CaseFault, Fields, or_memory};
-use node_core::{BeginFault, NodeCalls, NodeState, Start};
+use node_core::{BeginFault, MapKeeper, NodeCalls, NodeState, Start};
 use repl_data::{Bytes, Csn, NoMemory, Update};
 use std::alloc::Global;
 use vector_core::Vector;
 
 /// The node of the replica id that the next word writes.
-pub fn next_node(alloc: Global, fields: &mut Fields<'_>) -> Result<NodeState, CaseFault> {
-    let rid = next_rid(fields)?;
-    if rid == 0 || rid == u16::MAX {
-        return Err(CaseFault::Argument);
-    }
-    or_memory(made::node(alloc, rid))
-}
-
-fn next_rid(fields: &mut Fields<'_>) -> Result<u16, CaseFault> {
-    match u16::try_from(fields.number()?) {
-        Ok(rid) => Ok(rid),
-        Err(_) => Err(CaseFault::Argument),
-    }
+pub fn next_node(
+    alloc: Global,
+    fields: &mut Fields<'_>,
+) -> Result<NodeState<MapKeeper>, CaseFault> {
+    or_memory(made::node(alloc, made::next_rid(fields)?))
 }
 
 /// The time that the next word writes, in seconds since 1970.
@@ -51,7 +43,7 @@ pub fn ask<N: NodeCalls>(
     match call {
         "acquire" => acquire(alloc, node, fields, told),
         "release" => {
-            node.release(next_rid(fields)?);
+            node.release(made::any_rid(fields)?);
             Ok(())
         }
         "apply" => apply(alloc, node, fields, told),
@@ -82,7 +74,7 @@ fn acquire<N: NodeCalls>(
 ) -> Result<(), CaseFault> {
     let suffix = fields.word()?;
     let suffix = or_memory(Bytes::from_slice(alloc, suffix.as_bytes()))?;
-    let rid = next_rid(fields)?;
+    let rid = made::any_rid(fields)?;
     let front = or_memory(vector_of(alloc, next_csn(fields)?))?;
     let now = next_time(fields)?;
     let start = Start { suffix, rid, front };
@@ -95,7 +87,7 @@ fn apply<N: NodeCalls>(
     fields: &mut Fields<'_>,
     told: &mut String,
 ) -> Result<(), CaseFault> {
-    let from = next_rid(fields)?;
+    let from = made::any_rid(fields)?;
     let prev = next_csn(fields)?;
     let now = next_time(fields)?;
     let change = next_change(alloc, fields)?;

@@ -9,7 +9,7 @@ use crate::connection::replies;
 use crate::made;
 use case_lines::{CaseFault, Fields, or_memory, tell_bytes};
 use conn_core::Conn;
-use node_core::NodeState;
+use node_core::{MapKeeper, NodeState};
 use repl_data::{Bytes, NoMemory};
 use std::alloc::Global;
 use std::fmt::Write;
@@ -26,7 +26,7 @@ enum Way {
 fn feed_cut(
     alloc: Global,
     conn: &mut Conn,
-    node: &mut NodeState,
+    node: &mut NodeState<MapKeeper>,
     stream: &[u8],
     cut: usize,
 ) -> Result<(), NoMemory> {
@@ -39,7 +39,7 @@ fn feed_cut(
 fn feed_bytewise(
     alloc: Global,
     conn: &mut Conn,
-    node: &mut NodeState,
+    node: &mut NodeState<MapKeeper>,
     stream: &[u8],
 ) -> Result<(), NoMemory> {
     for byte in stream {
@@ -51,7 +51,7 @@ fn feed_bytewise(
 fn feed_held(
     alloc: Global,
     conn: &mut Conn,
-    node: &mut NodeState,
+    node: &mut NodeState<MapKeeper>,
     stream: &[u8],
 ) -> Result<(), NoMemory> {
     conn.hold(stream)?;
@@ -63,7 +63,7 @@ fn feed_held(
 fn fed(
     alloc: Global,
     conn: &mut Conn,
-    node: &mut NodeState,
+    node: &mut NodeState<MapKeeper>,
     stream: &[u8],
     way: Way,
 ) -> Result<Bytes, NoMemory> {

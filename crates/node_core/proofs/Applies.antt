@@ -15,10 +15,12 @@ use Rattle.repl_data.proofs.Sound.{sound_sub, sound_rid}
 use Rattle.vector_core.specs.declared.answers.Applied.{Applied}
 use Rattle.vector_core.specs.declared.answers.Applied.TheVariants.{Taken, Duplicate}
 use Rattle.vector_core.specs.declared.answers.ApplyFault.{ApplyFault}
+use Rattle.vector_core.specs.declared.answers.ApplyFault.TheVariants as apply
 use Rattle.pending_core.specs.Draw.{raised_to}
 use Rattle.node_core.specs.Node.{Node, front}
 use Rattle.node_core.specs.Steps.{moment_of, is_held_by, is_prev, or_prev, form_fault, is_too_late, taken_answer, formed_answer, apply_answer, after_apply}
 use Rattle.node_core.specs.Sound.{IsPlain, IsSoundNode, GoesOn, number_at, IsReached}
+use Rattle.vector_core.proofs.Lists.{if_true, if_false}
 use Rattle.node_core.proofs.Orders.{lt_number, eq_same, plain_same}
 use Rattle.node_core.proofs.Fronts.{front_plain, front_other-above}
 use Rattle.node_core.proofs.Moves.{was_pending, goes_on, goes_on-refl}
@@ -181,3 +183,23 @@ apply_keeps n from u now fails s fits = by_answer (apply_answer n from u now fai
     by_answer (Ok Taken) e = (let one = takes_one n from u now s fits (taken-means n from u now fails s fits e) in (one.sound, one.on))
     by_answer (Ok Duplicate) e = (s, goes_on-refl n)
     by_answer (Err fault) e = (s, goes_on-refl n)
+
+-- ---- the keeper fails
+
+-- what would be taken is the keeper's fault where it fails
+pub failing-taken : (n : Node) (from : ℕ) (u : Update) (now : ℕ) → apply_answer n from u now false ≡ Ok Taken → apply_answer n from u now true ≡ Err apply.KeeperFault
+failing-taken n from u now e =
+    let held = if_only (is_held_by n.holder from) _ _ (Ok Taken) (λ q. cc) e in
+    if_true _ _ held.0 ∙ by_form (form_fault u) held.1
+  where
+    by_form : (o : Option Malformed) → formed_answer n u now false o ≡ Ok Taken → formed_answer n u now true o ≡ Err apply.KeeperFault
+    by_form (Some why) q = absurd cc
+    by_form None q =
+        (let c = u.change in
+        let have = front n u.change.csn.rid in
+        let s3 = if_not ((c.csn.rid == n.rid) && csn_lt have c.csn) _ _ (Ok Taken) (λ z. cc) q in
+        let s4 = if_not (not (csn_lt have c.csn)) _ _ (Ok Taken) (λ z. cc) s3.1 in
+        let s5 = if_not (is_too_late now c.csn.time) _ _ (Ok Taken) (λ z. cc) s4.1 in
+        let s6 = if_not (not (csn_eq u.prev have)) _ _ (Ok Taken) (λ z. cc) s5.1 in
+        let s7 = if_not (not (is_known n.taken (needed c.target c.body))) _ _ (Ok Taken) (λ z. cc) s6.1 in
+        if_false _ _ s3.0 ∙ if_false _ _ s4.0 ∙ if_false _ _ s5.0 ∙ if_false _ _ s6.0 ∙ if_false _ _ s7.0)

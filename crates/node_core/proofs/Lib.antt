@@ -24,3 +24,5 @@ pub mod Verdicts
 pub mod OpenTickets
 pub mod Judging
 pub mod OwnEntries
+pub mod KeptRows
+pub mod Replays

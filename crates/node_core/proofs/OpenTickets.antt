@@ -15,6 +15,7 @@ use Rattle.repl_data.specs.Closed.{needed}
 use Rattle.repl_data.proofs.CsnTests.{csn_eq-same}
 use Rattle.repl_data.proofs.Orders.{csn_exact}
 use Rattle.repl_data.proofs.InOrder.{is_equal}
+use Rattle.ldap_types.specs.declared.reply.LdapResult.{LdapResult}
 use Rattle.ldap_rules.specs.Verdict.{Verdict, Refuses, Writes, Answers}
 use Rattle.vector_core.specs.declared.answers.Applied.{Applied}
 use Rattle.vector_core.specs.declared.answers.Applied.TheVariants.{Taken, Duplicate}
@@ -33,7 +34,7 @@ use Rattle.node_core.specs.declared.fault.CommitFault.{CommitFault}
 use Rattle.node_core.specs.declared.fault.CommitFault.TheVariants as commit
 use Rattle.node_core.specs.Node.{Node, front}
 use Rattle.ldap_rules.specs.Laws.{target_at, change_at}
-use Rattle.node_core.specs.Steps.{moment_of, csn_at, csn_for, begin_answer, after_begin, Stale, Committed, kept_at, judged, commit_answer, after_commit, with_csn, written, ended, is_held_by, form_fault, formed_answer, apply_answer, after_apply}
+use Rattle.node_core.specs.Steps.{moment_of, csn_at, csn_for, begin_answer, after_begin, CommitAnswer, Stale, Refused, KeeperFailed, Committed, kept_at, judged, commit_answer, after_commit, with_csn, written, ended, is_held_by, form_fault, formed_answer, apply_answer, after_apply}
 use Rattle.node_core.specs.Sound.{IsSoundNode, IsOpen}
 use Rattle.node_core.specs.Calls.{AreSame, IsAdded, IsTaken, IsMoved, IsPending, IsPendingTaken, Begins, CommitsUnder, Applies, csn_left}
 use Rattle.node_core.proofs.Fronts.{csns-from}
@@ -241,27 +242,48 @@ committed-write n old new target body o (inr f) =
     subst (λ m. IsCommitted n (written m (Writes target body) new) old new) (sym (if_false _ _ f.2))
     (taken-open n old (change_at new target body) (without n.pending old ++ new ∷ []) (moment_of new) o (inr f) (moved-drawn n old new o.is_pending f.0))
 
+-- a CSN is chosen for what the verdict writes
+pub record IsWritten (n : Node) (life : ℕ) (csn : Csn) (v : Verdict) (now : ℕ) (new : Csn) : Type 0 where
+  pub life_is : life ≡ n.life
+  pub target : Option Uid
+  pub body : Body
+  pub writes : v ≡ Writes target body
+  pub chosen : csn_for n csn (needed (target_at csn target) body) now ≡ Some new
+
+-- what an answer means that has a CSN
+answer-from : (n : Node) (life : ℕ) (csn : Csn) (v : Verdict) (now : ℕ) (fails : Bool) (new : Csn) (answer : CommitAnswer)
+    → (Stale n.life ≡ answer → ⊥) → ((r : LdapResult) → Refused r ≡ answer → ⊥) → ((o : Option Csn) → kept_at n o fails ≡ answer → o ≡ Some new)
+    → commit_answer n life csn v now fails ≡ answer → IsWritten n life csn v now new
+answer-from n life csn v now fails new answer not_stale not_refused by_csn e =
+    let l = if_only (life == n.life) (judged n csn v now fails) (Stale n.life) answer not_stale e in
+    by_verdict v refl (eqb-true life n.life l.0) l.1
+  where
+    by_verdict : (w : Verdict) → v ≡ w → life ≡ n.life → judged n csn w now fails ≡ answer → IsWritten n life csn v now new
+    by_verdict (Refuses r) is l q = absurd (not_refused r q)
+    by_verdict (Answers r) is l q = absurd (not_refused r q)
+    by_verdict (Writes target body) is l q = record { life_is = l; target = target; body = body; writes = is; chosen = by_csn (csn_for n csn (needed (target_at csn target) body) now) q }
+
 -- what the answer Committed means
-pub committed-from : (n : Node) (life : ℕ) (csn : Csn) (v : Verdict) (now : ℕ) (new : Csn) → commit_answer n life csn v now false ≡ Committed new
-    → (life ≡ n.life) × ((target : Option Uid) × (body : Body) × (v ≡ Writes target body) × (csn_for n csn (needed (target_at csn target) body) now ≡ Some new))
-committed-from n life csn v now new e =
-    let l = if_only (life == n.life) (judged n csn v now false) (Stale n.life) (Committed new) (λ q. cc) e in
-    (eqb-true life n.life l.0, by_verdict v l.1)
+pub committed-from : (n : Node) (life : ℕ) (csn : Csn) (v : Verdict) (now : ℕ) (new : Csn) → commit_answer n life csn v now false ≡ Committed new → IsWritten n life csn v now new
+committed-from n life csn v now new e = answer-from n life csn v now false new (Committed new) (λ q. cc) (λ r q. cc) by_csn e
   where
     by_csn : (o : Option Csn) → kept_at n o false ≡ Committed new → o ≡ Some new
     by_csn None q = absurd cc
     by_csn (Some c) q = cc
 
-    by_verdict : (w : Verdict) → judged n csn w now false ≡ Committed new → (target : Option Uid) × (body : Body) × (w ≡ Writes target body) × (csn_for n csn (needed (target_at csn target) body) now ≡ Some new)
-    by_verdict (Refuses r) q = absurd cc
-    by_verdict (Answers r) q = absurd cc
-    by_verdict (Writes target body) q = (target, body, refl, by_csn (csn_for n csn (needed (target_at csn target) body) now) q)
+-- and what the keeper's fault means
+failed-from : (n : Node) (life : ℕ) (csn : Csn) (v : Verdict) (now : ℕ) (new : Csn) → commit_answer n life csn v now true ≡ KeeperFailed new → IsWritten n life csn v now new
+failed-from n life csn v now new e = answer-from n life csn v now true new (KeeperFailed new) (λ q. cc) (λ r q. cc) by_csn e
+  where
+    by_csn : (o : Option Csn) → kept_at n o true ≡ KeeperFailed new → o ≡ Some new
+    by_csn None q = absurd cc
+    by_csn (Some c) q = cc
 
 -- what a commit leaves, by its result
 pub record IsHandedBack (n left : Node) (old new : Csn) : Type 0 where
   pub opened : IsMoved (IsPending n) (IsPending left) old new
   pub committed : AreSame (IsPendingTaken n) (IsPendingTaken left)
-  pub same : old ≡ new
+  pub uncommitted : (IsPendingTaken n old → ⊥) → IsPendingTaken left new → ⊥
 
 abbrev pub CommitLeaves : Node → Node → Csn → Result Receipt (Ticket × CommitFault) → Type 0
 CommitLeaves n left old (Ok receipt) = IsCommitted n left old receipt.csn
@@ -271,21 +293,57 @@ handed : (n left : Node) (ticket back : Ticket) → left ≡ n → back ≡ tick
 handed n left ticket back e same =
     subst (λ m. IsHandedBack n m ticket.csn back.csn) (sym e)
     (subst (λ (t : Ticket). IsHandedBack n n ticket.csn t.csn) (sym same)
-    (record { opened = moved-same (IsPending n) ticket.csn; committed = same-refl (IsPendingTaken n); same = refl }))
+    (record { opened = moved-same (IsPending n) ticket.csn; committed = same-refl (IsPendingTaken n); uncommitted = λ free. free }))
+
+-- the keeper failed: the drawn CSN is pending, and nothing more is taken
+redrawn : (n : Node) (old new : Csn) (pending : List Csn) (last : Generator) → IsOpen n old → (Contains (csns_of n.taken) new → ⊥) → IsMoved (IsPending n) (λ z. Contains pending z) old new
+    → IsHandedBack n (record n { pending = pending; last = last }) old new
+redrawn n old new pending last o free moved = record {
+  opened = moved;
+  committed = λ k. (λ h. from k h, λ h. to k h);
+  uncommitted = λ none h. free h.is_taken;
+}
+  where
+    was_pending : (k : Csn) → Contains (csns_of n.taken) k → (Contains n.pending k × (k ≢ old)) ⊎ (Contains n.pending old × (k ≡ new)) → Contains n.pending k
+    was_pending k t (inl h) = h.0
+    was_pending k t (inr h) = absurd (free (subst (λ z. Contains (csns_of n.taken) z) h.1 t))
+
+    from : (k : Csn) → IsPendingTaken (record n { pending = pending; last = last }) k → IsPendingTaken n k
+    from k h = record { is_pending = was_pending k h.is_taken ((moved.all k).0 h.is_pending); is_taken = h.is_taken }
+
+    to : (k : Csn) → IsPendingTaken n k → IsPendingTaken (record n { pending = pending; last = last }) k
+    to k h = record {
+      is_pending = (moved.all k).1 (inl (h.is_pending, λ e. (let d = csns-from n.taken k h.is_taken in o.not_taken d.0 d.1 (ap number_of (d.2 ∙ e)))));
+      is_taken = h.is_taken;
+    }
+
+open-free : (n : Node) (csn : Csn) → IsOpen n csn → Contains (csns_of n.taken) csn → ⊥
+open-free n csn o h = (let d = csns-from n.taken csn h in o.not_taken d.0 d.1 (ap number_of d.2))
+
+failed-write : (n : Node) (old new : Csn) → IsOpen n old → IsNew n old new → IsHandedBack n (with_csn n old new) old new
+failed-write n old new o (inl e) =
+    subst (λ z. IsHandedBack n (with_csn n old z) old z) e
+    (subst (λ m. IsHandedBack n m old old) (sym (if_true _ _ (csn_eq-same old))) (redrawn n old old n.pending n.last o (open-free n old o) (moved-same (IsPending n) old)))
+failed-write n old new o (inr f) =
+    subst (λ m. IsHandedBack n m old new) (sym (if_false _ _ f.2))
+    (redrawn n old new (without n.pending old ++ new ∷ []) (moment_of new) o f.1 (moved-drawn n old new o.is_pending f.0))
 
 pub commit-leaves : (n left : Node) (ticket : Ticket) (v : Verdict) (now : ℕ) (result : Result Receipt (Ticket × CommitFault)) → IsSoundNode n → (ticket.life ≡ n.life → IsOpen n ticket.csn)
-    → ((back : Ticket) → result ≡ Err (back, commit.KeeperFault) → ⊥) → CommitsUnder n ticket v now result left → CommitLeaves n left ticket.csn result
-commit-leaves n left ticket v now (Ok receipt) s open' calm step =
-    let f = committed-from n ticket.life ticket.csn v now receipt.csn step.0.0 in
-    let o = open' f.0 in
-    let w = f.1 in
-    subst (λ m. IsCommitted n m ticket.csn receipt.csn) (sym (step.0.1 ∙ ap (λ z. after_commit n ticket.csn z (Committed receipt.csn)) w.2))
-    (committed-write n ticket.csn receipt.csn w.0 w.1 o (chosen-new n ticket.csn receipt.csn (needed (target_at ticket.csn w.0) w.1) now s o.is_pending w.3))
-commit-leaves n left ticket v now (Err (back, commit.NoMemory)) s open' calm step = handed n left ticket back step.1 step.0
-commit-leaves n left ticket v now (Err (back, commit.Stale life node_life)) s open' calm step = handed n left ticket back step.0.1 step.1
-commit-leaves n left ticket v now (Err (back, commit.Refused answer)) s open' calm step = handed n left ticket back step.0.1 step.1
-commit-leaves n left ticket v now (Err (back, commit.Exhausted last)) s open' calm step = handed n left ticket back step.0.1 step.1
-commit-leaves n left ticket v now (Err (back, commit.KeeperFault)) s open' calm step = absurd (calm back refl)
+    → CommitsUnder n ticket v now result left → CommitLeaves n left ticket.csn result
+commit-leaves n left ticket v now (Ok receipt) s open' step =
+    let w = committed-from n ticket.life ticket.csn v now receipt.csn step.0.0 in
+    let o = open' w.life_is in
+    subst (λ m. IsCommitted n m ticket.csn receipt.csn) (sym (step.0.1 ∙ ap (λ z. after_commit n ticket.csn z (Committed receipt.csn)) w.writes))
+    (committed-write n ticket.csn receipt.csn w.target w.body o (chosen-new n ticket.csn receipt.csn (needed (target_at ticket.csn w.target) w.body) now s o.is_pending w.chosen))
+commit-leaves n left ticket v now (Err (back, commit.NoMemory)) s open' step = handed n left ticket back step.1 step.0
+commit-leaves n left ticket v now (Err (back, commit.Stale life node_life)) s open' step = handed n left ticket back step.0.1 step.1
+commit-leaves n left ticket v now (Err (back, commit.Refused answer)) s open' step = handed n left ticket back step.0.1 step.1
+commit-leaves n left ticket v now (Err (back, commit.Exhausted last)) s open' step = handed n left ticket back step.0.1 step.1
+commit-leaves n left ticket v now (Err (back, commit.KeeperFault)) s open' step =
+    let w = failed-from n ticket.life ticket.csn v now back.csn step.0.0 in
+    let o = open' w.life_is in
+    subst (λ m. IsHandedBack n m ticket.csn back.csn) (sym step.0.1)
+    (failed-write n ticket.csn back.csn o (chosen-new n ticket.csn back.csn (needed (target_at ticket.csn w.target) w.body) now s o.is_pending w.chosen))
 
 -- ---- apply
 
@@ -369,9 +427,8 @@ pub commit-committed : (n left : Node) (old : Csn) (result : Result Receipt (Tic
 commit-committed n left old (Ok receipt) h = h.committed
 commit-committed n left old (Err (back, fault)) h = h.committed
 
-fault-same : (p q : Ticket × CommitFault) → ◌≡◌ {A = Result Receipt (Ticket × CommitFault)} (Err p) (Err q) → p ≡ q
-fault-same p q e = cc
-
-pub not_keeper : (result : Result Receipt (Ticket × CommitFault)) → MatchResult result (λ _. Unit {0}) (λ (e : Ticket × CommitFault). e.1 ≢ commit.KeeperFault) → (back : Ticket) → result ≡ Err (back, commit.KeeperFault) → ⊥
-not_keeper (Ok receipt) h back e = absurd cc
-not_keeper (Err pair) h back e = h (ap (λ (x : Ticket × CommitFault). x.1) (fault-same pair (back, commit.KeeperFault) e))
+-- a ticket that is handed back is not committed
+pub commit-uncommitted : (n left : Node) (old : Csn) (result : Result Receipt (Ticket × CommitFault)) → CommitLeaves n left old result → (IsPendingTaken n old → ⊥)
+    → MatchResult result (λ _. Unit {0}) (λ (e : Ticket × CommitFault). IsPendingTaken left e.0.csn → ⊥)
+commit-uncommitted n left old (Ok receipt) h free = tt
+commit-uncommitted n left old (Err (back, fault)) h free = h.uncommitted free

@@ -51,6 +51,10 @@ shown-next suffix taken c plan old new ready_suffix ready_facts next a range s k
     all_push [] h = (range, tt)
     all_push (x ∷ xs) h = (h.0, all_push xs h.1)
 
+-- a tree of the same facts shows the same
+pub shown-same : (suffix : Suffix) (taken : List Change) (old new : Known) → IsShown suffix taken old → new.suffix ≡ old.suffix → new.facts ≡ old.facts → IsShown suffix taken new
+shown-same suffix taken old new s named facts = record { named = named ∙ s.named; facts = facts ∙ s.facts; within = s.within }
+
 -- ---- a new node
 
 pub shown-new : (suffix copy : Suffix) (taken : List Change) (tree : Known) → copy ≡ suffix → taken ≡ [] → tree.suffix ≡ suffix.name → tree.facts ≡ all_facts suffix [] → IsShown copy taken tree

@@ -12,6 +12,7 @@ use Rattle.vector_core.specs.declared.answers.Start.{Start}
 use Rattle.vector_core.specs.declared.answers.Offer.{Offer}
 use Rattle.vector_core.specs.declared.answers.Offer.TheVariants as offered
 use Rattle.vector_core.specs.declared.answers.Applied.{Applied}
+use Rattle.vector_core.specs.declared.answers.Applied.TheVariants.{Taken, Duplicate}
 use Rattle.vector_core.specs.declared.answers.ApplyFault.{ApplyFault}
 use Rattle.vector_core.specs.declared.answers.ApplyFault.TheVariants as apply
 use Rattle.vector_core.specs.declared.answers.AcquireFault.{AcquireFault}
@@ -30,6 +31,14 @@ use Rattle.node_core.specs.Steps.{Judge, CommitAnswer, Stale, Refused, CommitExh
 
 -- ---- how a node is reached
 
+-- What a call asked of the node's keeper: nothing; to keep a change, and it did, or it failed; or memory was wanting, and it may
+-- have been asked or not.
+pub data Asked : Type 0 where
+  NotAsked : Asked
+  HasKept : Asked
+  HasFailed : Asked
+  RanShort : Asked
+
 -- by the values of a type
 pub record Reach (N : Type 0) : Type 1 where
   -- the node, as the last call left it
@@ -40,16 +49,16 @@ pub record Reach (N : Type 0) : Type 1 where
   pub shown : N → N → Sight
   -- the one node may come from the other by steps of others
   pub follows : N → Node → Node → Type 0
-  -- all that stands beside the node is as it was
-  pub keeps : N → N → Type 0
+  -- all that stands beside the node is as it was, but for its keeper, of which this was asked
+  pub keeps : N → Asked → N → Type 0
   -- how many calls of the keeper failed, and 0 where there is no keeper
   pub faults : N → ℕ
 
--- WHAT EVERY CALL KEEPS, which leads from the one value to the other
-pub record IsCall {N : Type 0} (c : Reach N) (old new : N) : Type 0 where
+-- WHAT EVERY CALL KEEPS, which leads from the one value to the other and asks this of the keeper
+pub record IsCall {N : Type 0} (c : Reach N) (asked : Asked) (old new : N) : Type 0 where
   -- steps of others may lie between the last call and this one
   pub meets : c.follows old (c.node old) (c.met old new)
-  pub beside : c.keeps old new
+  pub beside : c.keeps old asked new
   -- they start no node again
   pub life : (c.met old new).life ≡ (c.node old).life
   pub count : c.faults old ≤ c.faults new
@@ -142,6 +151,20 @@ pub record IsPendingTaken (n : Node) (csn : Csn) : Type 0 where
   pub is_taken : Contains (csns_of n.taken) csn
 
 -- ---- the keeper
+
+-- what a commit asked of it, and an apply
+abbrev pub commit_asked : Result Receipt (Ticket × CommitFault) → Asked
+commit_asked (Ok receipt) = HasKept
+commit_asked (Err (back, commit.KeeperFault)) = HasFailed
+commit_asked (Err (back, commit.NoMemory)) = RanShort
+commit_asked (Err (back, fault)) = NotAsked
+
+abbrev pub apply_asked : Result Applied ApplyFault → Asked
+apply_asked (Ok Taken) = HasKept
+apply_asked (Ok Duplicate) = NotAsked
+apply_asked (Err apply.KeeperFault) = HasFailed
+apply_asked (Err apply.NoMemory) = RanShort
+apply_asked (Err fault) = NotAsked
 
 -- only a fault of the keeper raises the count
 abbrev pub CommitCause : ℕ → ℕ → Result Receipt (Ticket × CommitFault) → Type 0

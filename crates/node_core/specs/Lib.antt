@@ -5,3 +5,5 @@ pub mod Sound
 pub mod Answers
 pub mod Calls
 pub mod Kept
+pub mod Keeper
+pub mod Opening

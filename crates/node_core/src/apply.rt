@@ -3,7 +3,7 @@
 ghost use Rattle.std.specs.Prelude.{◌≡◌, ◌≢◌, ◌↔◌, Ok, Err, Some, None, IfOk, OnOk, OnErr, IfErr, IsTrue, Contains, false};
 ghost use Rattle.std.specs.Option.{option_copied};
 ghost use Rattle.repl_data.specs.Closed.{is_known, needed};
-ghost use Rattle.vector_core.specs.Vector.{IsRaised};
+ghost use Rattle.node_core.specs.Keeper.{ApplyKeeps, MayAsk};
 ghost use Rattle.node_core.specs.Node.{front};
 ghost use Rattle.node_core.specs.Steps.{is_held_by, is_prev, form_fault, taken_answer, apply_answer, after_apply};
 ghost use Rattle.node_core.specs.Calls.{Applies};
@@ -14,11 +14,13 @@ ghost use Rattle.repl_data.specs.Facts.{ids_added};
 ghost use Rattle.repl_data.specs.declared.change.Change.{Change};
 
 use crate::front::copied;
-use crate::node::{NodeState, is_too_late};
-use repl_data::{Body, Change, Csn, Malformed, NoMemory, Uid, Update, check};
+use crate::node::{BareNode, is_too_late};
+use crate::room::{make_room, put};
+use keeper_core::{KeepFault, Keeper};
+use repl_data::{Body, Change, Csn, Malformed, Uid, Update, check};
 use std::alloc::Global;
 use urp_tree::tree_laws;
-use vector_core::{Applied, ApplyFault, Vector};
+use vector_core::{Applied, ApplyFault};
 
 /// Zero, or a CSN of the same originator with subsequence 0 below the other.
 fn is_prev(prev: Csn, csn: Csn) -> bool
@@ -53,17 +55,7 @@ pub(crate) fn needed(target: Uid, body: &Body) -> Uid
     }
 }
 
-/// A vector raised by one CSN.
-pub(crate) fn raised(alloc: Global, vector: &Vector, csn: Csn) -> Result<Vector, NoMemory>
-    ensures { IfOk result (λ new. IsRaised vector.now new csn) }
-{
-    let mut new = Vector::new(alloc)?;
-    new.merge(alloc, vector)?;
-    new.raise(alloc, csn)?;
-    Ok(new)
-}
-
-impl NodeState {
+impl BareNode {
     /// The supplier holds the node.
     fn is_held_by(&self, from: u16) -> bool
         ensures { result ≡ is_held_by self.now.holder from }
@@ -115,16 +107,18 @@ impl NodeState {
         self.taken_answer(update, now)
     }
 
-    /// Takes an update of the supplier `from`, at the time `now` in seconds since 1970.
-    pub fn apply(
+    /// Takes an update of the supplier `from`, at the time `now` in seconds since 1970. Where it is
+    /// taken, the keeper is asked once before, when all memory is there.
+    pub fn apply<K: Keeper>(
         &mut self,
         alloc: Global,
+        keeper: &mut K,
         from: u16,
         update: &Update,
         now: u32,
     ) -> Result<Applied, ApplyFault>
         ensures step { Applies self.old from update.now now result self.new }
-        ensures keeper { result ≢ Err ApplyFault.KeeperFault }
+        ensures keeper { ApplyKeeps (record { rows = K.rows; may_find = K.may_find; accepted = K.accepted; faults = K.faults; puts = K.puts }) update.now keeper.old result keeper.new }
     {
         match self.apply_answer(from, update, now) {
             Ok(Applied::Taken) => {}
@@ -134,17 +128,24 @@ impl NodeState {
         let Ok(change) = copied(&update.change) else {
             return Err(ApplyFault::NoMemory);
         };
-        if self.take_update(alloc, change).is_err() {
-            return Err(ApplyFault::NoMemory);
+        match self.take_update(alloc, keeper, change) {
+            Ok(()) => Ok(Applied::Taken),
+            Err(KeepFault::NoMemory) => Err(ApplyFault::NoMemory),
+            Err(KeepFault::Failed) => Err(ApplyFault::KeeperFault),
         }
-        Ok(Applied::Taken)
     }
 
-    /// Takes a change of another originator.
-    fn take_update(&mut self, alloc: Global, change: Change) -> Result<(), NoMemory>
+    /// Keeps a change of another originator, and then takes it.
+    fn take_update<K: Keeper>(
+        &mut self,
+        alloc: Global,
+        keeper: &mut K,
+        change: Change,
+    ) -> Result<(), KeepFault>
         requires { IsNext self.old change }
         ensures ok { OnOk result (self.new ≡ after_apply self.old change (Ok Applied.Taken)) }
         ensures err { OnErr result (self.new ≡ self.old) }
+        ensures asked { MayAsk (record { rows = K.rows; may_find = K.may_find; accepted = K.accepted; faults = K.faults; puts = K.puts }) keeper.old change result keeper.new }
     {
         // For the prover alone: numbers that are read are known to be within their range.
         let _numbers = (
@@ -153,12 +154,15 @@ impl NodeState {
             change.csn.rid,
             change.csn.sub,
         );
-        self.log.reserve(alloc, 1)?;
-        let heads = raised(alloc, &self.heads, change.csn)?;
         tree_laws();
-        let plan = self.view.plan(alloc, &change)?;
-        self.view.install(plan);
-        self.heads = heads;
+        let Ok(room) = make_room(alloc, &mut self.log, &mut self.view, &self.heads, &change) else {
+            return Err(KeepFault::NoMemory);
+        };
+        if let Err(fault) = put(alloc, keeper, &room, &change) {
+            return Err(fault);
+        }
+        self.view.install(room.plan);
+        self.heads = room.heads;
         self.generator.raise(change.csn);
         self.log.append(change);
         Ok(())

@@ -4,7 +4,7 @@ ghost use Rattle.std.specs.Prelude.{◌≡◌, ◌≢◌, IfOk, MatchResult};
 ghost use Rattle.node_core.specs.Node.{vector_of};
 ghost use Rattle.node_core.specs.Searches.{searched};
 ghost use Rattle.node_core.specs.Steps.{judge_view, ended, released};
-ghost use Rattle.node_core.specs.Calls.{IsCall, Begins, Commits, IsWrite, Acquires, Offers, Applies, AreSame, IsAdded, IsTaken, IsMoved, csn_left, CommitCause, ApplyCause};
+ghost use Rattle.node_core.specs.Calls.{IsCall, NotAsked, commit_asked, apply_asked, Begins, Commits, IsWrite, Acquires, Offers, Applies, AreSame, IsAdded, IsTaken, IsMoved, csn_left, CommitCause, ApplyCause};
 
 use crate::fault::{BeginFault, CommitFault};
 use crate::ticket::{Receipt, Ticket};
@@ -38,7 +38,7 @@ pub trait NodeCalls {
     /// Draws a CSN at the time `now`, in seconds since 1970, and makes it pending.
     fn begin(&mut self, alloc: Global, now: u32) -> Result<Ticket, BeginFault>
         // What every call keeps.
-        ensures call { IsCall reach self.old self.new }
+        ensures call { IsCall reach NotAsked self.old self.new }
         // The step of the node that it met.
         ensures step { Begins (reach.met self.old self.new) now result (reach.node self.new) }
         // The ticket that is given is open, and was none of the open ones.
@@ -65,7 +65,7 @@ pub trait NodeCalls {
         // The request is a write that may be committed.
         requires write { IsWrite request.now bound }
         // What every call keeps.
-        ensures call { IsCall reach self.old self.new }
+        ensures call { IsCall reach (commit_asked result) self.old self.new }
         // The step of the node that it met.
         ensures step { Commits judge_view (reach.met self.old self.new) ticket request.now bound now result (reach.node self.new) }
         // The ticket is open still, by the CSN that is pending for it.
@@ -85,7 +85,7 @@ pub trait NodeCalls {
         // It is not committed.
         requires uncommitted { ticket.life ≡ (reach.node self.old).life → is_committed self.old ticket.csn → ⊥ }
         // What every call keeps.
-        ensures call { IsCall reach self.old self.new }
+        ensures call { IsCall reach NotAsked self.old self.new }
         // The step of the node that it met.
         ensures step { reach.node self.new ≡ ended (reach.met self.old self.new) ticket.life ticket.csn }
         // The ticket is open no longer.
@@ -101,7 +101,7 @@ pub trait NodeCalls {
         // The change is committed, and not settled.
         requires committed { receipt.life ≡ (reach.node self.old).life → is_committed self.old receipt.csn }
         // What every call keeps.
-        ensures call { IsCall reach self.old self.new }
+        ensures call { IsCall reach NotAsked self.old self.new }
         // The step of the node that it met.
         ensures step { reach.node self.new ≡ ended (reach.met self.old self.new) receipt.life receipt.csn }
         // Its ticket is open no longer.
@@ -114,7 +114,7 @@ pub trait NodeCalls {
     /// Lets a supplier begin to send, at the time `now` in seconds since 1970.
     fn acquire(&mut self, alloc: Global, start: &Start, now: u32) -> Result<(), AcquireFault>
         // What every call keeps.
-        ensures call { IsCall reach self.old self.new }
+        ensures call { IsCall reach NotAsked self.old self.new }
         // The step of the node that it met.
         ensures step { Acquires (reach.met self.old self.new) start.now now result (reach.node self.new) }
         // The same tickets are open.
@@ -125,7 +125,7 @@ pub trait NodeCalls {
     /// The supplier holds the node no longer.
     fn release(&mut self, rid: u16)
         // What every call keeps.
-        ensures call { IsCall reach self.old self.new }
+        ensures call { IsCall reach NotAsked self.old self.new }
         // The step of the node that it met.
         ensures step { reach.node self.new ≡ released (reach.met self.old self.new) rid }
         // The same tickets are open.
@@ -136,7 +136,7 @@ pub trait NodeCalls {
     /// The change of least CSN that the node's vector covers, and the other vector does not.
     fn offer(&mut self, alloc: Global, beyond: &Vector) -> Result<Offer, NoMemory>
         // What every call keeps.
-        ensures call { IsCall reach self.old self.new }
+        ensures call { IsCall reach NotAsked self.old self.new }
         // What the node that it met has for that vector.
         ensures step { Offers (reach.met self.old self.new) beyond.now result }
         // The node is left as it was met.
@@ -155,7 +155,7 @@ pub trait NodeCalls {
         now: u32,
     ) -> Result<Applied, ApplyFault>
         // What every call keeps.
-        ensures call { IsCall reach self.old self.new }
+        ensures call { IsCall reach (apply_asked result) self.old self.new }
         // The step of the node that it met.
         ensures step { Applies (reach.met self.old self.new) from (heard self.old update.now) now result (reach.node self.new) }
         // The same tickets are open.
@@ -168,7 +168,7 @@ pub trait NodeCalls {
     /// The update vector.
     fn vector(&mut self, alloc: Global) -> Result<Vector, NoMemory>
         // What every call keeps.
-        ensures call { IsCall reach self.old self.new }
+        ensures call { IsCall reach NotAsked self.old self.new }
         // The vector of the node that it met.
         ensures step { IfOk result (λ vector. vector ≡ vector_of (reach.met self.old self.new)) }
         // The node is left as it was met.
@@ -182,7 +182,7 @@ pub trait NodeCalls {
     /// be those of an earlier state of the node.
     fn search(&mut self, alloc: Global, request: &SearchRequest) -> Result<Found, NoMemory>
         // What every call keeps.
-        ensures call { IsCall reach self.old self.new }
+        ensures call { IsCall reach NotAsked self.old self.new }
         // The answer of that view, with that vector.
         ensures step { IfOk result (λ found. found ≡ searched (reach.shown self.old self.new) request.now) }
         // The node is left as it was met.

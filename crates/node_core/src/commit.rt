@@ -1,6 +1,6 @@
 //! A commit, by its cases in order.
 
-ghost use Rattle.std.specs.Prelude.{Option, false, ◌≡◌, ◌≢◌, Ok, Err, Some, None, option_map, if◌then◌else◌, OnOk, OnErr, MatchResult, ◌++◌, ◌∷◌, [], Contains};
+ghost use Rattle.std.specs.Prelude.{Option, false, ◌≡◌, Some, None, option_map, if◌then◌else◌, ◌++◌, ◌∷◌, [], Contains};
 ghost use Rattle.repl_data.specs.Order.{csn_eq};
 ghost use Rattle.repl_data.specs.declared.csn.Uid.{Uid};
 ghost use Rattle.repl_data.specs.declared.change.Body.{Body};
@@ -8,20 +8,23 @@ ghost use Rattle.repl_data.specs.Closed.{needed, IsArrival};
 ghost use Rattle.ldap_rules.specs.Verdict.{Writes, IsVerdict};
 ghost use Rattle.pending_core.specs.Pending.{without, IsAbove};
 ghost use Rattle.ldap_rules.specs.Laws.{target_at};
-ghost use Rattle.node_core.specs.Steps.{csn_for, moment_of, with_csn, takes, judge_view, verdict_at};
+ghost use Rattle.node_core.specs.Steps.{csn_for, moment_of, judge_view, verdict_at};
+ghost use Rattle.node_core.specs.Keeper.{AsksWritten, CommitKeeps, MayAsk};
 ghost use Rattle.node_core.specs.Calls.{Commits, CommitsUnder, IsWrite, IsPending, IsPendingTaken};
-ghost use Rattle.node_core.specs.Kept.{IsChosen};
+ghost use Rattle.node_core.specs.Kept.{IsChosen, after_own};
 ghost use Rattle.node_core.specs.Sound.{IsOpen, IsSoundWrite};
 
-use crate::apply::{needed, raised};
+use crate::apply::needed;
 use crate::fault::CommitFault;
 use crate::laws::judge_laws;
-use crate::node::{NodeState, draw};
+use crate::node::{BareNode, draw};
+use crate::room::{make_room, put};
 use crate::ticket::{Receipt, Ticket};
+use keeper_core::{KeepFault, Keeper};
 use ldap_rules::{JudgeFault, Judged, judge};
 use ldap_types::{Identity, Request};
 use pending_core::{Generator, PendingList};
-use repl_data::{Body, Change, Csn, NoMemory, Uid};
+use repl_data::{Body, Change, Csn, Uid};
 use std::alloc::Global;
 use urp_tree::tree_laws;
 
@@ -50,7 +53,7 @@ fn redraw(pending: &mut PendingList, generator: &mut Generator, old: Csn, new: C
     generator.seq = new.seq;
 }
 
-impl NodeState {
+impl BareNode {
     /// The CSN that a change takes which needs the entry `id`: that of the ticket where the id is
     /// below it, else the next one.
     fn csn_for(&self, csn: Csn, id: Uid, now: u32) -> Option<Csn>
@@ -63,13 +66,20 @@ impl NodeState {
         draw(&mut generator, self.rid, now)
     }
 
-    /// Takes a change of the node's own, whose CSN is a pending one or takes the place of one.
-    fn take_own(&mut self, alloc: Global, old: Csn, change: Change) -> Result<(), NoMemory>
+    /// Keeps a change of the node's own, whose CSN is a pending one or takes the place of one, and then
+    /// takes it. Where the keeper failed, its CSN is pending in place of the old one.
+    fn take_own<K: Keeper>(
+        &mut self,
+        alloc: Global,
+        keeper: &mut K,
+        old: Csn,
+        change: Change,
+    ) -> Result<(), KeepFault>
         requires open { IsOpen self.old old }
         requires chosen { IsChosen self.old old change.csn }
         requires arrives { IsArrival (self.old.taken ++ change ∷ []) }
-        ensures ok { OnOk result (self.new ≡ takes (with_csn self.old old change.csn) change) }
-        ensures err { OnErr result (self.new ≡ self.old) }
+        ensures node { self.new ≡ after_own self.old old change result }
+        ensures asked { MayAsk (record { rows = K.rows; may_find = K.may_find; accepted = K.accepted; faults = K.faults; puts = K.puts }) keeper.old change result keeper.new }
     {
         // For the prover alone: numbers that are read are known to be within their range.
         let _numbers = (
@@ -78,21 +88,30 @@ impl NodeState {
             change.csn.rid,
             change.csn.sub,
         );
-        self.log.reserve(alloc, 1)?;
-        let heads = raised(alloc, &self.heads, change.csn)?;
         tree_laws();
-        let plan = self.view.plan(alloc, &change)?;
+        let Ok(room) = make_room(alloc, &mut self.log, &mut self.view, &self.heads, &change) else {
+            return Err(KeepFault::NoMemory);
+        };
+        match put(alloc, keeper, &room, &change) {
+            Ok(()) => {}
+            Err(KeepFault::NoMemory) => return Err(KeepFault::NoMemory),
+            Err(KeepFault::Failed) => {
+                redraw(&mut self.pending, &mut self.generator, old, change.csn);
+                return Err(KeepFault::Failed);
+            }
+        }
         redraw(&mut self.pending, &mut self.generator, old, change.csn);
-        self.view.install(plan);
-        self.heads = heads;
+        self.view.install(room.plan);
+        self.heads = room.heads;
         self.log.append(change);
         Ok(())
     }
 
     /// Carries out a write that the rules accept.
-    fn commit_judged(
+    fn commit_judged<K: Keeper>(
         &mut self,
         alloc: Global,
+        keeper: &mut K,
         ticket: Ticket,
         target: Option<Uid>,
         body: Body,
@@ -102,7 +121,7 @@ impl NodeState {
         requires open { IsOpen self.old ticket.csn }
         requires sound { IsSoundWrite self.old.taken target body }
         ensures step { CommitsUnder self.old ticket (Writes target body) now result self.new }
-        ensures keeper { MatchResult result (λ _. Unit {0}) (λ e. e.1 ≢ CommitFault.KeeperFault) }
+        ensures keeper { CommitKeeps (record { rows = K.rows; may_find = K.may_find; accepted = K.accepted; faults = K.faults; puts = K.puts }) (Writes target body) keeper.old result keeper.new }
     {
         let id = needed(target_at(target, ticket.csn), &body);
         let Some(csn) = self.csn_for(ticket.csn, id, now) else {
@@ -115,11 +134,17 @@ impl NodeState {
             target: target_at(target, csn),
             body,
         };
-        if self.take_own(alloc, ticket.csn, change).is_err() {
-            return Err((ticket, CommitFault::NoMemory));
+        match self.take_own(alloc, keeper, ticket.csn, change) {
+            Ok(()) => {
+                let Ticket { csn: _, life } = ticket;
+                Ok(Receipt { csn, life, number })
+            }
+            Err(KeepFault::NoMemory) => Err((ticket, CommitFault::NoMemory)),
+            Err(KeepFault::Failed) => {
+                let Ticket { csn: _, life } = ticket;
+                Err((Ticket { csn, life }, CommitFault::KeeperFault))
+            }
         }
-        let Ticket { csn: _, life } = ticket;
-        Ok(Receipt { csn, life, number })
     }
 
     /// What the rules make of a request, on the view of what the node has taken.
@@ -139,9 +164,12 @@ impl NodeState {
     ///
     /// A change of an entry whose id is not below the ticket's CSN takes a new CSN, which becomes
     /// pending in place of the ticket's. What is committed can always be settled.
-    pub fn commit(
+    ///
+    /// Where a change is taken, the keeper is asked once before, when all memory is there.
+    pub fn commit<K: Keeper>(
         &mut self,
         alloc: Global,
+        keeper: &mut K,
         ticket: Ticket,
         request: &Request,
         bound: Identity,
@@ -151,7 +179,7 @@ impl NodeState {
         requires uncommitted { ticket.life ≡ self.old.life → IsPendingTaken self.old ticket.csn → ⊥ }
         requires write { IsWrite request.now bound }
         ensures step { Commits judge_view self.old ticket request.now bound now result self.new }
-        ensures keeper { MatchResult result (λ _. Unit {0}) (λ e. e.1 ≢ CommitFault.KeeperFault) }
+        ensures keeper { CommitKeeps (record { rows = K.rows; may_find = K.may_find; accepted = K.accepted; faults = K.faults; puts = K.puts }) (verdict_at judge_view self.old request.now bound) keeper.old result keeper.new }
     {
         if ticket.life != self.life {
             let life = ticket.life;
@@ -160,7 +188,7 @@ impl NodeState {
         }
         match self.judge(alloc, request, bound) {
             Ok(Judged::Write { target, body }) => {
-                self.commit_judged(alloc, ticket, target, body, now)
+                self.commit_judged(alloc, keeper, ticket, target, body, now)
             }
             Ok(Judged::Answer(answer)) => Err((ticket, CommitFault::Refused(answer))),
             Err(JudgeFault::NoMemory) => Err((ticket, CommitFault::NoMemory)),

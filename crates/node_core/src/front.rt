@@ -4,7 +4,7 @@ ghost use Rattle.std.specs.Prelude.{◌≡◌, IfOk};
 ghost use Rattle.node_core.specs.Node.{front, vector_of};
 ghost use Rattle.node_core.specs.Calls.{Offers};
 
-use crate::node::NodeState;
+use crate::node::BareNode;
 use repl_data::{Change, Csn, NoMemory, Update};
 use std::alloc::{AllocError, Global};
 use vector_core::{Offer, Vector};
@@ -16,7 +16,7 @@ pub(crate) fn copied(change: &Change) -> Result<Change, AllocError>
     change.clone()
 }
 
-impl NodeState {
+impl BareNode {
     /// The entry of the update vector for this originator, and zero where there is none. Costs a
     /// logarithm.
     pub fn front(&self, rid: u16) -> Csn

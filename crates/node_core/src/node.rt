@@ -1,4 +1,4 @@
-//! `NodeState`: its making, begin, abort, settle, acquire, release.
+//! `BareNode`, a node without its keeper: its making, begin, abort, settle, acquire, release.
 
 ghost use Rattle.std.specs.Prelude.{◌≡◌, ◌≢◌, ◌<◌, length, Ok, Err, Some, None, option_map, IfOk, MatchOption};
 ghost use Rattle.vector_core.specs.Greatest.{greatest, later_of};
@@ -25,11 +25,12 @@ use view_counts::CountedTree;
 /// How far a time of another node may be ahead, in seconds.
 const DAY: u64 = 86_400;
 
-/// One node: the changes that it has taken, what it has drawn and not settled, and who holds it.
+/// One node without its keeper: the changes that it has taken, what it has drawn and not settled, and
+/// who holds it.
 ///
 /// Contracts see the record of the definitions.
 #[derive(Debug, Drop)]
-pub struct NodeState {
+pub(crate) struct BareNode {
     pub(crate) suffix: Suffix,
     pub(crate) rid: u16,
     pub(crate) log: ChangeLog,
@@ -43,7 +44,7 @@ pub struct NodeState {
     pub(crate) view: CountedTree,
 }
 
-impl Model for NodeState {
+impl Model for BareNode {
     ghost use Rattle.node_core.specs.Node.{Node};
     ghost use Rattle.node_core.specs.Kept.{IsKept, IsShown};
 
@@ -54,15 +55,15 @@ impl Model for NodeState {
     ghost invariant = { λ s. IsKept (record { suffix = s.suffix; rid = s.rid; taken = s.log.changes; pending = s.pending; last = s.generator; holder = s.holder; life = s.life }) s.heads × IsShown s.suffix s.log.changes s.view };
 }
 
-impl NodeState {
+impl BareNode {
     /// A node that has taken nothing.
-    pub fn new(alloc: Global, rid: u16, suffix: &Suffix) -> Result<NodeState, NoMemory>
+    pub fn new(alloc: Global, rid: u16, suffix: &Suffix) -> Result<BareNode, NoMemory>
         requires from_1 { 0 < rid }
         requires to_65534 { rid < 65535 }
         ensures { IfOk result (λ n. n ≡ new_node suffix.now rid) }
     {
         let view = CountedTree::new(alloc, suffix)?;
-        Ok(NodeState {
+        Ok(BareNode {
             suffix: copied_suffix(suffix)?,
             rid,
             log: ChangeLog::new(alloc)?,
@@ -130,7 +131,7 @@ impl NodeState {
     }
 }
 
-impl NodeState {
+impl BareNode {
     /// Draws the next CSN at the time `now`, in seconds since 1970, and makes it pending. Takes
     /// constant time.
     pub fn begin(&mut self, now: u32) -> Result<Ticket, BeginFault>

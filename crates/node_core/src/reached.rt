@@ -2,8 +2,9 @@
 
 use crate::calls::NodeCalls;
 use crate::fault::{BeginFault, CommitFault};
-use crate::node::NodeState;
+use crate::state::NodeState;
 use crate::ticket::{Receipt, Ticket};
+use keeper_core::Keeper;
 use ldap_types::{Identity, Request, SearchRequest};
 use repl_data::{NoMemory, Update};
 use search_core::Found;
@@ -11,20 +12,20 @@ use std::alloc::Global;
 use vector_core::{AcquireFault, Applied, ApplyFault, Offer, Start, Vector};
 
 /// A node that nothing but its calls changes: the open tickets are those of its pending CSNs.
-impl NodeCalls for NodeState {
+impl<K: Keeper> NodeCalls for NodeState<K> {
     ghost use Rattle.std.specs.Prelude.{◌≡◌};
     ghost use Rattle.repl_data.specs.declared.csn.Csn.{Csn};
     ghost use Rattle.repl_data.specs.declared.change.Update.{Update};
     ghost use Rattle.node_core.specs.Node.{Node};
-    ghost use Rattle.node_core.specs.Searches.{sight_of};
+    ghost use Rattle.node_core.specs.Keeper.{KeptNode, kept_reach};
     ghost use Rattle.node_core.specs.Calls.{Reach, IsPending, IsPendingTaken};
 
     // A call meets the node that the last one left.
-    ghost reach = { record { node = λ s. s; met = λ old _. old; shown = λ old _. sight_of old; follows = λ _ left meets. meets ≡ left; keeps = λ _ _. Unit {0}; faults = λ _. 0 } };
+    ghost reach = { kept_reach K.faults };
 
-    ghost is_open = { IsPending };
+    ghost is_open = { λ s. IsPending s.node };
 
-    ghost is_committed = { IsPendingTaken };
+    ghost is_committed = { λ s. IsPendingTaken s.node };
 
     ghost heard = { λ _ update. update };
 

@@ -3,13 +3,13 @@
 ghost use Rattle.std.specs.Prelude.{◌≡◌, IfOk};
 ghost use Rattle.node_core.specs.Searches.{sight_of, searched};
 
-use crate::node::NodeState;
+use crate::node::BareNode;
 use ldap_types::SearchRequest;
 use repl_data::NoMemory;
 use search_core::{Found, search, search_laws};
 use std::alloc::Global;
 
-impl NodeState {
+impl BareNode {
     /// The answer to a search over the changes that the node has taken, with its update vector (RFC 4511, section
     /// 4.5). Visits the entries in scope, up to the limit, and no others.
     pub fn search(&self, alloc: Global, request: &SearchRequest) -> Result<Found, NoMemory>

@@ -6,14 +6,14 @@ ghost use Rattle.repl_data.specs.View.{view_of, dump_of};
 ghost use Rattle.urp_tree.specs.Known.{known_view};
 ghost use Rattle.node_core.specs.Node.{audit_at};
 
-use crate::node::NodeState;
+use crate::node::BareNode;
 use repl_data::{NoMemory, ShownEntryList, Uid};
 use std::alloc::Global;
 use urp_tree::UrpTree;
 use view_counts::{Audit, audit_of};
 use view_walk::{listing, walk_laws};
 
-impl NodeState {
+impl BareNode {
     /// The view of the changes that the node has taken.
     pub fn view(&self) -> &UrpTree
         ensures { known_view result.now ≡ view_of self.now.suffix self.now.taken }

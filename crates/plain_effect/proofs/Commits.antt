@@ -114,14 +114,13 @@ commits_plainly_by : (sound : IsSoundJudge judge_view) (before : Node) (ticket :
 commits_plainly_by sound before ticket request bound now receipt after s arrival open' plain step above =
     let v = verdict_at judge_view before request bound in
     let f = committed-from before ticket.life ticket.csn v now receipt.csn step.0.0 in
-    let o = open' f.0 in
-    let w = f.1 in
+    let o = open' f.life_is in
     let closed = closed_of_arrival before.taken arrival in
     let new = receipt.csn in
-    let c : Change = change_at new w.0 w.1 in
-    let drawn = drawn_so before ticket.csn now w.0 w.1 new s o arrival (sound before.suffix before.taken closed request bound w.0 w.1 w.2) w.3 in
-    let effect = written_effect before.suffix before.taken request.controls bound w.1 new w.0 request.op closed above plain w.2 drawn in
-    let left : after ≡ after_commit before ticket.csn (Writes w.0 w.1) (Committed new) = step.0.1 ∙ ap (λ (x : Verdict). after_commit before ticket.csn x (Committed new)) w.2 in
+    let c : Change = change_at new f.target f.body in
+    let drawn = drawn_so before ticket.csn now f.target f.body new s o arrival (sound before.suffix before.taken closed request bound f.target f.body f.writes) f.chosen in
+    let effect = written_effect before.suffix before.taken request.controls bound f.body new f.target request.op closed above plain f.writes drawn in
+    let left : after ≡ after_commit before ticket.csn (Writes f.target f.body) (Committed new) = step.0.1 ∙ ap (λ (x : Verdict). after_commit before ticket.csn x (Committed new)) f.writes in
     let taken : after.taken ≡ before.taken ++ c ∷ [] =
     ap (λ (n : Node). n.taken) left ∙ ap (λ (xs : List Change). xs ++ c ∷ []) (taken_at before (csn_eq ticket.csn new) (without before.pending ticket.csn ++ new ∷ []) (moment_of new)) in
     let suffix : after.suffix ≡ before.suffix =

@@ -17,7 +17,7 @@ use case_views::example_suffix;
 use conn_core::{Conn, NodeMachine};
 use front_tcp::{StreamEnd, Tally, serve_stream};
 use io_edge::{MemSink, MemSource, MemStream, SetClock};
-use node_core::NodeState;
+use node_core::{CalmKeeper, NodeState};
 use std::alloc::Global;
 use std::fmt::Write;
 use std::slice;
@@ -61,12 +61,12 @@ pub fn answer<R: Wait>(
 }
 
 /// A machine that has not ended.
-pub fn new_machine(alloc: Global) -> Result<NodeMachine<NodeState, SetClock>, CaseFault>
+pub fn new_machine(alloc: Global) -> Result<NodeMachine<NodeState<CalmKeeper>, SetClock>, CaseFault>
     ensures { IfOk result (λ machine. machine.conn.is_closed ≡ false) }
 {
     let conn = or_memory(Conn::new(alloc))?;
     let suffix = example_suffix(alloc)?;
-    let node = or_memory(NodeState::new(alloc, 1, &suffix))?;
+    let node = or_memory(NodeState::new(alloc, CalmKeeper::new(alloc), 1, &suffix))?;
     Ok(NodeMachine::new(conn, node, SetClock::new(100)))
 }
 

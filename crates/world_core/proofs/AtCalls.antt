@@ -1,5 +1,5 @@
 -- What each call of a node of a world says of the open tickets.
-use Rattle.std.proofs.Common.{◌≡◌, ◌≢◌, ◌≤◌, ℕ, List, inl, inr, false, refl, sym, ap, subst, ◌∙◌, arith, Contains}
+use Rattle.std.proofs.Common.{◌≡◌, ◌≢◌, ◌≤◌, ℕ, inl, inr, true, false, refl, sym, ap, subst, ◌∙◌, arith, Contains}
 use Rattle.std.specs.Prelude.{Result, Ok, Err, IfOk, MatchResult}
 use Rattle.std.proofs.lemmas.Bool.{cases_Bool, cases_eq}
 use Rattle.vector_core.proofs.Lists.{if_true, if_false}
@@ -22,35 +22,36 @@ use Rattle.node_core.specs.declared.ticket.Ticket.{Ticket as NodeTicket}
 use Rattle.node_core.specs.declared.ticket.Receipt.{Receipt}
 use Rattle.change_log.specs.Log.{csns_of}
 use Rattle.node_core.specs.Node.{Node}
-use Rattle.node_core.specs.Steps.{judge_view, verdict_at, Committed, ended, is_held_by, released}
-use Rattle.node_core.specs.Calls.{IsCall, AreSame, IsAdded, IsTaken, IsMoved, IsPending, IsPendingTaken, Begins, Commits, CommitsUnder, Acquires, Applies, csn_left}
+use Rattle.node_core.specs.Steps.{judge_view, verdict_at, Committed, KeeperFailed, ended, is_held_by, released}
+use Rattle.node_core.specs.Calls.{Asked, NotAsked, apply_asked, commit_asked, IsCall, AreSame, IsAdded, IsTaken, IsMoved, IsPending, IsPendingTaken, Begins, Commits, CommitsUnder, Acquires, Applies, csn_left}
 use Rattle.node_core.proofs.Spares.{CommitLeaves, commit_leaves, ended-spares}
-use Rattle.node_core.proofs.OpenTickets.{CommitLeaves as LeavesTickets, AreKept, kept-refl, ended-now, ended-stale, taken-none, begin-leaves, begin-open, begin-committed, begin-fresh, commit-leaves, commit-open, commit-committed, not_keeper, apply-keeps_tickets}
-use Rattle.world_core.specs.World.{World, node_of, with_node, node_in}
+use Rattle.node_core.proofs.OpenTickets.{CommitLeaves as LeavesTickets, AreKept, kept-refl, ended-now, ended-stale, taken-none, begin-leaves, begin-open, begin-committed, begin-fresh, commit-leaves, commit-open, commit-committed, commit-uncommitted, apply-keeps_tickets}
+use Rattle.world_core.specs.World.{World, keeper_in, keeper_of, node_in}
+use Rattle.world_core.specs.Nodes.{IsOneOf, KeptNodes}
 use Rattle.world_core.specs.Laws.{IsNode, IsNoTicket}
 use Rattle.world_core.specs.Taken.{IsKept}
-use Rattle.world_core.specs.At.{At, reached, IsBeside, at_reach, IsOpenAt, IsCommittedAt}
-use Rattle.world_core.proofs.Honest.{node_of-here}
-use Rattle.world_core.proofs.Outcomes.{same_node}
-use Rattle.world_core.proofs.Failures.{fault-says}
+use Rattle.world_core.specs.At.{At, IsAsked, kept_by, reached, IsBeside, at_reach, IsOpenAt, IsCommittedAt}
+use Rattle.world_core.proofs.OneOf.{kept_nodes, put_one, same_keeper, same_node, with_kept}
 use Rattle.world_core.proofs.CallsKept.{IsUsable, usable-open, sound-at, committed-live}
 use Rattle.world_core.proofs.AtTickets.{IsAfter, apart-same, apart-taken, apart-added, apart-moved, begun-free, committed-free, commit-moves_free}
 
 -- ---- the node alone changes
 
-pub beside-of : (w : World) (n : ℕ) (nodes : List Node) → nodes ≡ with_node w.nodes n (node_of nodes n) → IsBeside (record { world = w; n = n }) (record { world = record w { nodes = nodes }; n = n })
-beside-of w n nodes e = record { same = refl; world = ap (λ ns. record w { nodes = ns }) e }
+pub beside-of : (w : World) (n : ℕ) (asked : Asked) (ns : KeptNodes) → IsOneOf (kept_nodes w) n ns → IsAsked (keeper_in w n) asked (keeper_of ns.keepers n) → IsBeside (record { world = w; n = n }) asked (record { world = with_kept w ns; n = n })
+beside-of w n asked ns o a = record { same = refl; world = put_one w n ns o; keeper = a }
 
--- the same where the node that is put is known
-pub others-of : (nodes new : List Node) (n : ℕ) (left : Node) → IsNode nodes n → new ≡ with_node nodes n left → new ≡ with_node nodes n (node_of new n)
-others-of nodes new n left i e = e ∙ ap (λ m. with_node nodes n m) (sym (ap (λ ns. node_of ns n) e ∙ node_of-here nodes n left i))
+pub call-of : (asked : Asked) (old new : At) → IsBeside old asked new → (kept_by old).faults ≤ (kept_by new).faults → IsCall at_reach asked old new
+call-of asked old new b c = record { meets = refl; beside = b; life = refl; count = c }
 
-pub call-of : (old new : At) → IsBeside old new → IsCall at_reach old new
-call-of old new b = record { meets = refl; beside = b; life = refl; count = (let none : 0 ≤ 0 = omega arith in none) }
+-- the keeper is left alone
+pub alone-call : (old new : At) → IsBeside old NotAsked new → IsCall at_reach NotAsked old new
+alone-call old new b =
+    call-of NotAsked old new b (subst (λ k. (kept_by old).faults ≤ k.faults) (sym b.keeper) (omega arith))
 
 -- nothing changes
-pub idle-call : (a : At) → IsCall at_reach a a
-idle-call a = call-of a a (record { same = refl; world = sym (ap (λ ns. record a.world { nodes = ns }) (same_node a.world.nodes a.n)) })
+pub idle-call : (a : At) → IsCall at_reach NotAsked a a
+idle-call a =
+    alone-call a a (record { same = refl; world = sym (λ i. record a.world { nodes = same_node a.world.nodes a.n i; keepers = same_keeper a.world.keepers a.n i }); keeper = refl })
 
 -- ---- the life stays
 
@@ -83,8 +84,8 @@ idle-kept met left i = record {
   );
 }
 
-pub idle-same : (old new : At) → IsBeside old new → IsIdle (reached old) (reached new) → AreSame (IsOpenAt old) (IsOpenAt new) × AreSame (IsCommittedAt old) (IsCommittedAt new)
-idle-same old new b i = both-same old new (record { beside = b; life = i.life }) (idle-kept (reached old) (reached new) i)
+pub idle-same : (old new : At) → IsBeside old NotAsked new → IsIdle (reached old) (reached new) → AreSame (IsOpenAt old) (IsOpenAt new) × AreSame (IsCommittedAt old) (IsCommittedAt new)
+idle-same old new b i = both-same old new (record { asked = NotAsked; beside = b; life = i.life }) (idle-kept (reached old) (reached new) i)
 
 pub acquire-idle : (met left : Node) (start : Start) (now : ℕ) (result : Result Unit AcquireFault) → Acquires met start now result left → IsIdle met left
 acquire-idle met left start now (Ok done) s = subst (λ m. IsIdle met m) (sym s.1) (record { pending = refl; taken = refl; life = refl })
@@ -103,10 +104,10 @@ release-idle met left from e =
 
 -- ---- begin
 
-begin-after : (old new : At) (now : ℕ) (result : Result NodeTicket BeginFault) → IsBeside old new → Begins (reached old) now result (reached new) → IsAfter old new
-begin-after old new now result b s = record { beside = b; life = begin-life (reached old) (reached new) now result s }
+begin-after : (old new : At) (now : ℕ) (result : Result NodeTicket BeginFault) → IsBeside old NotAsked new → Begins (reached old) now result (reached new) → IsAfter old new
+begin-after old new now result b s = record { asked = NotAsked; beside = b; life = begin-life (reached old) (reached new) now result s }
 
-pub begin-open_at : (old new : At) (now : ℕ) (result : Result NodeTicket BeginFault) → IsKept old.world → IsNode old.world.nodes old.n → IsBeside old new → Begins (reached old) now result (reached new)
+pub begin-open_at : (old new : At) (now : ℕ) (result : Result NodeTicket BeginFault) → IsKept old.world → IsNode old.world.nodes old.n → IsBeside old NotAsked new → Begins (reached old) now result (reached new)
     → MatchResult result (λ (t : NodeTicket). IsAdded (IsOpenAt old) (IsOpenAt new) t.csn) (λ _. AreSame (IsOpenAt old) (IsOpenAt new))
 begin-open_at old new now (Ok ticket) k i b s =
     apart-added IsPending old new (begin-after old new now (Ok ticket) b s) ticket.csn (begun-free old.world old.n now ticket (reached new) k i s)
@@ -115,7 +116,7 @@ begin-open_at old new now (Err fault) k i b s =
     apart-same IsPending old new (begin-after old new now (Err fault) b s)
     (begin-open (reached old) (reached new) (Err fault) (begin-leaves (reached old) (reached new) now (Err fault) (sound-at old.world old.n k i) s))
 
-pub begin-committed_at : (old new : At) (now : ℕ) (result : Result NodeTicket BeginFault) → IsKept old.world → IsNode old.world.nodes old.n → IsBeside old new → Begins (reached old) now result (reached new)
+pub begin-committed_at : (old new : At) (now : ℕ) (result : Result NodeTicket BeginFault) → IsKept old.world → IsNode old.world.nodes old.n → IsBeside old NotAsked new → Begins (reached old) now result (reached new)
     → AreSame (IsCommittedAt old) (IsCommittedAt new)
 begin-committed_at old new now result k i b s =
     apart-same IsPendingTaken old new (begin-after old new now result b s)
@@ -148,32 +149,36 @@ committed-here a life csn g e = (g e).here
 pub committed-free_at : (a : At) (life : ℕ) (csn : Csn) → (life ≡ (reached a).life → IsCommittedAt a csn) → life ≡ (reached a).life → IsNoTicket a.world a.n life csn
 committed-free_at a life csn g e = subst (λ z. IsNoTicket a.world a.n z csn) (sym e) (g e).no_ticket
 
-abbrev pub IsCalm : Result Receipt (NodeTicket × CommitFault) → Type 0
-IsCalm result = MatchResult result (λ _. Unit {0}) (λ (e : NodeTicket × CommitFault). e.1 ≢ commit.KeeperFault)
-
-commit-life : (w : World) (n : ℕ) (left : Node) (ticket : NodeTicket) (request : Request) (bound : Identity) (now : ℕ) (result : Result Receipt (NodeTicket × CommitFault)) → IsKept w → IsNode w.nodes n → IsUsable w n ticket.life ticket.csn → IsCalm result → Commits judge_view (node_in w n) ticket request bound now result left → left.life ≡ (node_in w n).life
-commit-life w n left ticket request bound now (Ok receipt) k i u calm s =
+left-life : (w : World) (n : ℕ) (left : Node) (ticket : NodeTicket) (request : Request) (bound : Identity) (now : ℕ) (result : Result Receipt (NodeTicket × CommitFault)) → IsKept w → IsNode w.nodes n → IsUsable w n ticket.life ticket.csn → Commits judge_view (node_in w n) ticket request bound now result left → left.life ≡ (node_in w n).life
+left-life w n left ticket request bound now (Ok receipt) k i u s =
     let v = verdict_at judge_view (node_in w n) request bound in
     let leaves : CommitLeaves (node_in w n) ticket.life ticket.csn v (Committed receipt.csn) =
     subst (λ a. CommitLeaves (node_in w n) ticket.life ticket.csn v a) s.0.0 (commit_leaves (node_in w n) ticket.life ticket.csn v now false (sound-at w n k i) (usable-open w n ticket.life ticket.csn k i u)) in
     ap (λ (m : Node). m.life) s.0.1 ∙ leaves.0.same_life
-commit-life w n left ticket request bound now (Err (back, fault)) k i u calm s =
-    ap (λ (m : Node). m.life) (fault-says (node_in w n) ticket back (verdict_at judge_view (node_in w n) request bound) now fault left s calm).same_node
+left-life w n left ticket request bound now (Err (back, commit.NoMemory)) k i u s = ap (λ (m : Node). m.life) s.1
+left-life w n left ticket request bound now (Err (back, commit.Stale life node_life)) k i u s = ap (λ (m : Node). m.life) s.0.1
+left-life w n left ticket request bound now (Err (back, commit.Refused answer)) k i u s = ap (λ (m : Node). m.life) s.0.1
+left-life w n left ticket request bound now (Err (back, commit.Exhausted last)) k i u s = ap (λ (m : Node). m.life) s.0.1
+left-life w n left ticket request bound now (Err (back, commit.KeeperFault)) k i u s =
+    let v = verdict_at judge_view (node_in w n) request bound in
+    let leaves : CommitLeaves (node_in w n) ticket.life ticket.csn v (KeeperFailed back.csn) =
+    subst (λ a. CommitLeaves (node_in w n) ticket.life ticket.csn v a) s.0.0 (commit_leaves (node_in w n) ticket.life ticket.csn v now true (sound-at w n k i) (usable-open w n ticket.life ticket.csn k i u)) in
+    ap (λ (m : Node). m.life) s.0.1 ∙ leaves.0.same_life
 
-module _ (old new : At) (ticket : NodeTicket) (request : Request) (bound : Identity) (now : ℕ) (result : Result Receipt (NodeTicket × CommitFault)) (k : IsKept old.world) (i : IsNode old.world.nodes old.n) (g : IsGiven old ticket.life ticket.csn) (calm : IsCalm result) (b : IsBeside old new) (s : Commits judge_view (reached old) ticket request bound now result (reached new)) where
+module _ (old new : At) (ticket : NodeTicket) (request : Request) (bound : Identity) (now : ℕ) (result : Result Receipt (NodeTicket × CommitFault)) (k : IsKept old.world) (i : IsNode old.world.nodes old.n) (g : IsGiven old ticket.life ticket.csn) (b : IsBeside old (commit_asked result) new) (s : Commits judge_view (reached old) ticket request bound now result (reached new)) where
   usable : IsUsable old.world old.n ticket.life ticket.csn
   usable = given-usable old ticket.life ticket.csn g
 
   after : IsAfter old new
-  after = record { beside = b; life = commit-life old.world old.n (reached new) ticket request bound now result k i usable calm s }
+  after = record { asked = commit_asked result; beside = b; life = left-life old.world old.n (reached new) ticket request bound now result k i usable s }
 
   leaves : LeavesTickets (reached old) (reached new) ticket.csn result
-  leaves = commit-leaves (reached old) (reached new) ticket _ now result (sound-at old.world old.n k i) (usable-open old.world old.n ticket.life ticket.csn k i usable) (not_keeper result calm) s
+  leaves = commit-leaves (reached old) (reached new) ticket _ now result (sound-at old.world old.n k i) (usable-open old.world old.n ticket.life ticket.csn k i usable) s
 
   pub commit-open_at : IsMoved (IsOpenAt old) (IsOpenAt new) ticket.csn (csn_left result)
   commit-open_at =
       apart-moved IsPending old new after ticket.csn (csn_left result)
-      (commit-moves_free old.world old.n now ticket (verdict_at judge_view (reached old) request bound) result (reached new) k i (usable-open old.world old.n ticket.life ticket.csn k i usable) (λ e. (g.opened e).no_ticket) calm s)
+      (commit-moves_free old.world old.n now ticket (verdict_at judge_view (reached old) request bound) result (reached new) k i (usable-open old.world old.n ticket.life ticket.csn k i usable) (λ e. (g.opened e).no_ticket) s)
       (commit-open (reached old) (reached new) ticket.csn result leaves)
 
   -- the CSN of a change that was committed is of no ticket of the world
@@ -192,24 +197,23 @@ module _ (old new : At) (ticket : NodeTicket) (request : Request) (bound : Ident
       by_result (Ok receipt) t m = apart-added IsPendingTaken old new after receipt.csn (taken-free receipt t) m
       by_result (Err pair) t m = apart-same IsPendingTaken old new after m
 
+  -- the ticket that is handed back is not committed
   pub commit-uncommitted_at : ticket.life ≡ (reached old).life → MatchResult result (λ _. Unit {0}) (λ (back : NodeTicket × CommitFault). IsCommittedAt new back.0.csn → ⊥)
-  commit-uncommitted_at e = by_result result calm s commit-committed_at
+  commit-uncommitted_at e = by_result result (commit-uncommitted (reached old) (reached new) ticket.csn result leaves free)
     where
-      by_result : (r : Result Receipt (NodeTicket × CommitFault)) → IsCalm r → Commits judge_view (reached old) ticket request bound now r (reached new)
-          → MatchResult r (λ (x : Receipt). IsAdded (IsCommittedAt old) (IsCommittedAt new) x.csn) (λ _. AreSame (IsCommittedAt old) (IsCommittedAt new))
+      free : IsPendingTaken (reached old) ticket.csn → ⊥
+      free h = g.uncommitted e (record { here = h; no_ticket = (g.opened e).no_ticket })
+
+      by_result : (r : Result Receipt (NodeTicket × CommitFault)) → MatchResult r (λ _. Unit {0}) (λ (back : NodeTicket × CommitFault). IsPendingTaken (reached new) back.0.csn → ⊥)
           → MatchResult r (λ _. Unit {0}) (λ (back : NodeTicket × CommitFault). IsCommittedAt new back.0.csn → ⊥)
-      by_result (Ok receipt) c t m = tt
-      by_result (Err (back, fault)) c t m =
-          λ h.
-          g.uncommitted e
-          (subst (λ (x : NodeTicket). IsCommittedAt old x.csn) (fault-says (reached old) ticket back (verdict_at judge_view (reached old) request bound) now fault (reached new) t c).same_ticket
-          ((m back.csn).0 h))
+      by_result (Ok receipt) m = tt
+      by_result (Err pair) m = λ h. m h.here
 
 -- ---- abort and settle
 
-module _ (old new : At) (life : ℕ) (csn : Csn) (b : IsBeside old new) (s : reached new ≡ ended (reached old) life csn) where
+module _ (old new : At) (life : ℕ) (csn : Csn) (b : IsBeside old NotAsked new) (s : reached new ≡ ended (reached old) life csn) where
   ended-after : IsAfter old new
-  ended-after = record { beside = b; life = ap (λ (m : Node). m.life) s ∙ (ended-spares (reached old) life csn).same_life }
+  ended-after = record { asked = NotAsked; beside = b; life = ap (λ (m : Node). m.life) s ∙ (ended-spares (reached old) life csn).same_life }
 
   pub ended-open_at : life ≡ (reached old).life → IsTaken (IsOpenAt old) (IsOpenAt new) csn
   ended-open_at e =
@@ -245,8 +249,8 @@ apply-life met left from u now (Err (apply.Gap have prev)) s = ap (λ (m : Node)
 apply-life met left from u now (Err (apply.Missing id)) s = ap (λ (m : Node). m.life) s.1
 apply-life met left from u now (Err apply.KeeperFault) s = ap (λ (m : Node). m.life) s.1
 
-pub apply-same_at : (old new : At) (from : ℕ) (u : Update) (now : ℕ) (result : Result Applied ApplyFault) → IsKept old.world → IsNode old.world.nodes old.n → IsBeside old new → Applies (reached old) from u now result (reached new)
+pub apply-same_at : (old new : At) (from : ℕ) (u : Update) (now : ℕ) (result : Result Applied ApplyFault) → IsKept old.world → IsNode old.world.nodes old.n → IsBeside old (apply_asked result) new → Applies (reached old) from u now result (reached new)
     → AreSame (IsOpenAt old) (IsOpenAt new) × AreSame (IsCommittedAt old) (IsCommittedAt new)
 apply-same_at old new from u now result k i b s =
-    both-same old new (record { beside = b; life = apply-life (reached old) (reached new) from u now result s })
+    both-same old new (record { asked = apply_asked result; beside = b; life = apply-life (reached old) (reached new) from u now result s })
     (apply-keeps_tickets (reached old) (reached new) from u now result (sound-at old.world old.n k i) s)

@@ -1,6 +1,6 @@
 -- The open tickets of a node of a world, as its calls draw and end them.
-use Rattle.std.proofs.Common.{◌≡◌, ◌≢◌, ℕ, ◌<◌, ◌⊎◌, inl, inr, false, sym, ap, subst, ◌∙◌, arith, Contains}
-use Rattle.std.specs.Prelude.{Result, Ok, Err, MatchResult}
+use Rattle.std.proofs.Common.{◌≡◌, ◌≢◌, ℕ, ◌<◌, ◌⊎◌, inl, inr, true, false, sym, ap, subst, ◌∙◌, arith, Contains}
+use Rattle.std.specs.Prelude.{Result, Ok, Err}
 use Rattle.repl_data.specs.declared.csn.Csn.{Csn}
 use Rattle.repl_data.specs.Order.{number_of}
 use Rattle.ldap_rules.specs.Verdict.{Verdict}
@@ -10,16 +10,15 @@ use Rattle.node_core.specs.declared.ticket.Ticket.{Ticket as NodeTicket}
 use Rattle.node_core.specs.declared.ticket.Receipt.{Receipt}
 use Rattle.node_core.specs.Node.{Node}
 use Rattle.node_core.specs.Sound.{IsOpen}
-use Rattle.node_core.specs.Steps.{Committed}
-use Rattle.node_core.specs.Calls.{AreSame, IsAdded, IsTaken, IsMoved, Begins, CommitsUnder, csn_left}
+use Rattle.node_core.specs.Steps.{Committed, KeeperFailed}
+use Rattle.node_core.specs.Calls.{Asked, AreSame, IsAdded, IsTaken, IsMoved, Begins, CommitsUnder, csn_left}
 use Rattle.node_core.proofs.Spares.{CommitLeaves, commit_leaves}
 use Rattle.world_core.specs.World.{World, Ticket, node_of, node_in}
 use Rattle.world_core.specs.Laws.{IsNode, IsNoTicket}
 use Rattle.world_core.specs.Taken.{IsKept}
 use Rattle.world_core.specs.At.{At, reached, IsBeside, IsApart}
 use Rattle.world_core.proofs.Writing.{begun-above}
-use Rattle.world_core.proofs.Failures.{fault-says}
-use Rattle.world_core.proofs.CallsKept.{at_time, committed-live, sound-at}
+use Rattle.world_core.proofs.CallsKept.{at_time, committed-live, failed-live, sound-at}
 
 -- no ticket of the world at the node has the CSN, in the node's present life
 abbrev pub IsFree : At → Csn → Type 0
@@ -27,7 +26,8 @@ IsFree a csn = IsNoTicket a.world a.n (reached a).life csn
 
 -- a call of the node led from the one to the other
 pub record IsAfter (old new : At) : Type 0 where
-  pub beside : IsBeside old new
+  pub asked : Asked
+  pub beside : IsBeside old asked new
   pub life : (reached new).life ≡ (reached old).life
 
 free-still : (old new : At) (csn : Csn) → IsAfter old new → IsFree old csn → IsFree new csn
@@ -112,10 +112,22 @@ committed-free w n now ticket verdict receipt left k i opened free s t c at live
     subst (λ a. CommitLeaves (node_in w n) ticket.life ticket.csn verdict a) s.0.0 (commit_leaves (node_in w n) ticket.life ticket.csn verdict now false (sound-at w n k i) opened) in
     leaves.2 t.csn (live-pending w n t k c at live) (free t c at live))
 
+-- nor is one under which the keeper failed
+failed-free : (w : World) (n now : ℕ) (ticket back : NodeTicket) (verdict : Verdict) (left : Node) → IsKept w → IsNode w.nodes n → (ticket.life ≡ (node_in w n).life → IsOpen (node_in w n) ticket.csn) → IsNoTicket w n (node_in w n).life ticket.csn → CommitsUnder (node_in w n) ticket verdict now (Err (back, commit.KeeperFault)) left → IsNoTicket w n (node_in w n).life back.csn
+failed-free w n now ticket back verdict left k i opened free s t c at live =
+    (let leaves : CommitLeaves (node_in w n) ticket.life ticket.csn verdict (KeeperFailed back.csn) =
+    subst (λ a. CommitLeaves (node_in w n) ticket.life ticket.csn verdict a) s.0.0 (commit_leaves (node_in w n) ticket.life ticket.csn verdict now true (sound-at w n k i) opened) in
+    leaves.2 t.csn (live-pending w n t k c at live) (free t c at live))
+
 -- the CSN that a commit leaves pending is the ticket's, or neither of them is a ticket's of the world
-pub commit-moves_free : (w : World) (n now : ℕ) (ticket : NodeTicket) (verdict : Verdict) (result : Result Receipt (NodeTicket × CommitFault)) (left : Node) → IsKept w → IsNode w.nodes n → (ticket.life ≡ (node_in w n).life → IsOpen (node_in w n) ticket.csn) → (ticket.life ≡ (node_in w n).life → IsNoTicket w n (node_in w n).life ticket.csn) → MatchResult result (λ _. Unit {0}) (λ (e : NodeTicket × CommitFault). e.1 ≢ commit.KeeperFault) → CommitsUnder (node_in w n) ticket verdict now result left → (ticket.csn ≡ csn_left result) ⊎ (IsNoTicket w n (node_in w n).life ticket.csn × IsNoTicket w n (node_in w n).life (csn_left result))
-commit-moves_free w n now ticket verdict (Ok receipt) left k i opened free calm s =
+pub commit-moves_free : (w : World) (n now : ℕ) (ticket : NodeTicket) (verdict : Verdict) (result : Result Receipt (NodeTicket × CommitFault)) (left : Node) → IsKept w → IsNode w.nodes n → (ticket.life ≡ (node_in w n).life → IsOpen (node_in w n) ticket.csn) → (ticket.life ≡ (node_in w n).life → IsNoTicket w n (node_in w n).life ticket.csn) → CommitsUnder (node_in w n) ticket verdict now result left → (ticket.csn ≡ csn_left result) ⊎ (IsNoTicket w n (node_in w n).life ticket.csn × IsNoTicket w n (node_in w n).life (csn_left result))
+commit-moves_free w n now ticket verdict (Ok receipt) left k i opened free s =
     (let live = committed-live (node_in w n) ticket verdict now receipt s.0.0 in
     inr (free live, committed-free w n now ticket verdict receipt left k i opened (free live) s))
-commit-moves_free w n now ticket verdict (Err (back, fault)) left k i opened free calm s =
-    inl (ap (λ (b : NodeTicket). b.csn) (sym (fault-says (node_in w n) ticket back verdict now fault left s calm).same_ticket))
+commit-moves_free w n now ticket verdict (Err (back, commit.NoMemory)) left k i opened free s = inl (ap (λ (b : NodeTicket). b.csn) (sym s.0))
+commit-moves_free w n now ticket verdict (Err (back, commit.Stale life node_life)) left k i opened free s = inl (ap (λ (b : NodeTicket). b.csn) (sym s.1))
+commit-moves_free w n now ticket verdict (Err (back, commit.Refused answer)) left k i opened free s = inl (ap (λ (b : NodeTicket). b.csn) (sym s.1))
+commit-moves_free w n now ticket verdict (Err (back, commit.Exhausted last)) left k i opened free s = inl (ap (λ (b : NodeTicket). b.csn) (sym s.1))
+commit-moves_free w n now ticket verdict (Err (back, commit.KeeperFault)) left k i opened free s =
+    (let live = failed-live (node_in w n) ticket verdict now back.csn true s.0.0 in
+    inr (free live, failed-free w n now ticket back verdict left k i opened (free live) s))

@@ -1,6 +1,6 @@
 -- A call at one node, at whatever time, leaves a world as its type keeps it.
-use Rattle.std.proofs.Common.{◌≡◌, ◌≢◌, ℕ, ◌⊎◌, inl, inr, false, ne_eqb, List, sym, ap, subst, ◌∙◌}
-use Rattle.std.specs.Prelude.{Result, Ok, Err, MatchResult}
+use Rattle.std.proofs.Common.{◌≡◌, ◌≢◌, ℕ, ◌⊎◌, inl, inr, Bool, false, ne_eqb, List, refl, sym, ap, subst, ◌∙◌}
+use Rattle.std.specs.Prelude.{Result, Ok, Err}
 use Rattle.std.proofs.lemmas.Bool.{cases_eq}
 use Rattle.vector_core.proofs.Lists.{if_false}
 use Rattle.repl_data.specs.declared.csn.Csn.{Csn}
@@ -8,8 +8,10 @@ use Rattle.repl_data.specs.declared.change.Update.{Update}
 use Rattle.ldap_types.specs.declared.request.Request.{Request}
 use Rattle.ldap_types.specs.declared.reply.Identity.{Identity}
 use Rattle.ldap_rules.specs.Verdict.{Verdict}
+use Rattle.pending_core.specs.Draw.{generator_at}
 use Rattle.vector_core.specs.declared.answers.Start.{Start}
 use Rattle.vector_core.specs.declared.answers.Applied.{Applied}
+use Rattle.vector_core.specs.declared.answers.Applied.TheVariants.{Taken, Duplicate}
 use Rattle.vector_core.specs.declared.answers.ApplyFault.{ApplyFault}
 use Rattle.vector_core.specs.declared.answers.ApplyFault.TheVariants as apply
 use Rattle.vector_core.specs.declared.answers.AcquireFault.{AcquireFault}
@@ -22,17 +24,18 @@ use Rattle.node_core.specs.declared.ticket.Ticket.{Ticket as NodeTicket}
 use Rattle.node_core.specs.declared.ticket.Receipt.{Receipt}
 use Rattle.node_core.specs.Node.{Node}
 use Rattle.node_core.specs.Sound.{IsSoundNode, IsOpen}
-use Rattle.node_core.specs.Steps.{judge_view, verdict_at, after_begin, Stale, Committed, commit_answer, after_commit, ended, after_apply, after_acquire, released}
-use Rattle.node_core.specs.Calls.{Begins, Commits, CommitsUnder, Acquires, Applies, IsPending, IsPendingTaken}
+use Rattle.node_core.specs.Steps.{CommitAnswer, judge_view, verdict_at, after_begin, Stale, Refused, CommitExhausted, KeeperFailed, Committed, commit_answer, after_commit, ended, after_apply, after_acquire, released}
+use Rattle.node_core.specs.Calls.{Begins, Commits, CommitsUnder, Acquires, Applies, IsPending, IsPendingTaken, apply_asked, commit_asked}
 use Rattle.node_core.proofs.OpenTickets.{ended-stale}
 use Rattle.node_core.proofs.Verdicts.{open-from}
 use Rattle.world_core.specs.declared.event.Event.TheVariants.{Clock}
-use Rattle.world_core.specs.World.{World, Happens, Call, CallBegin, CallCommit, CallEnd, CallAcquire, CallRelease, CallApply, called, node_of, with_node, node_in, put}
+use Rattle.world_core.specs.World.{World, Happens, Call, CallBegin, CallCommit, CallEnd, CallAcquire, CallRelease, CallApply, Keeper, after_apply_batch, after_commit_batch, called, keeper_in, node_of, with_node, node_in, put, put_both}
+use Rattle.world_core.specs.At.{IsAsked}
 use Rattle.world_core.specs.Laws.{IsNode, IsNoTicket, MayCall, IsFitting}
 use Rattle.world_core.specs.Taken.{IsKept}
 use Rattle.world_core.proofs.Honest.{node_of-here}
-use Rattle.world_core.proofs.Outcomes.{same_node}
-use Rattle.world_core.proofs.Failures.{fault-says}
+use Rattle.world_core.proofs.OneOf.{same_keeper, same_node}
+use Rattle.world_core.proofs.AskedKeepers.{ApplySaid, CommitSaid, apply-said, commit-said, fault-says}
 use Rattle.world_core.proofs.Runs.{came-on}
 use Rattle.world_core.proofs.TakenLaws.{called-kept}
 
@@ -64,6 +67,14 @@ put-as w v n left m p e = p ∙ ap (λ x. put w n x) e
 put-same : (w v : World) (n : ℕ) (left : Node) → v ≡ put w n left → left ≡ node_in w n → v ≡ w
 put-same w v n left p e = put-as w v n left (node_in w n) p e ∙ ap (λ ns. record w { nodes = ns }) (same_node w.nodes n)
 
+-- and its keeper
+both-as : (w v : World) (n : ℕ) (left m : Node) (k l : Keeper) → v ≡ put_both w n left k → left ≡ m → k ≡ l → v ≡ put_both w n m l
+both-as w v n left m k l p e f = p ∙ ap (λ x. put_both w n x k) e ∙ ap (λ x. put_both w n m x) f
+
+both-same : (w v : World) (n : ℕ) (left : Node) (k : Keeper) → v ≡ put_both w n left k → left ≡ node_in w n → k ≡ keeper_in w n → v ≡ w
+both-same w v n left k p e f =
+    both-as w v n left (node_in w n) k (keeper_in w n) p e f ∙ (λ i. record w { nodes = same_node w.nodes n i; keepers = same_keeper w.keepers n i })
+
 -- ---- begin
 
 begin-leaves_world : (w v : World) (n now : ℕ) (result : Result NodeTicket BeginFault) (left : Node) → Begins (node_in w n) now result left → v ≡ put w n left → Leaves w n now CallBegin v
@@ -89,11 +100,24 @@ sound-at w n k i = k.lawful.sound.sound n i
 pub usable-open : (w : World) (n life : ℕ) (csn : Csn) → IsKept w → IsNode w.nodes n → IsUsable w n life csn → life ≡ (node_in w n).life → IsOpen (node_in w n) csn
 usable-open w n life csn k i u e = open-from (node_in w n) csn (sound-at w n k i) (u.is_pending e) (u.uncommitted e)
 
-commit-leaves_world : (w v : World) (n : ℕ) (ticket : NodeTicket) (request : Request) (bound : Identity) (now : ℕ) (result : Result Receipt (NodeTicket × CommitFault)) (left : Node) → MatchResult result (λ _. Unit {0}) (λ (e : NodeTicket × CommitFault). e.1 ≢ commit.KeeperFault) → Commits judge_view (node_in w n) ticket request bound now result left → v ≡ put w n left → Leaves w n now (CallCommit ticket.life ticket.csn request bound) v
-commit-leaves_world w v n ticket request bound now (Ok receipt) left calm s p =
-    inl (put-as w v n left _ p (s.0.1 ∙ ap (λ a. after_commit (node_in w n) ticket.csn (verdict_at judge_view (node_in w n) request bound) a) (sym s.0.0)))
-commit-leaves_world w v n ticket request bound now (Err (back, fault)) left calm s p =
-    inr (put-same w v n left p (fault-says (node_in w n) ticket back (verdict_at judge_view (node_in w n) request bound) now fault left s calm).same_node)
+said-leaves : (w v : World) (n : ℕ) (ticket : NodeTicket) (csn : Csn) (request : Request) (bound : Identity) (now : ℕ) (left : Node) (k : Keeper) (a : CommitAnswer) → v ≡ put_both w n left k → CommitSaid (node_in w n) left ticket csn (verdict_at judge_view (node_in w n) request bound) now (keeper_in w n) k a → Leaves w n now (CallCommit ticket.life ticket.csn request bound) v
+said-leaves w v n ticket csn request bound now left k a p s =
+    inl (both-as w v n left _ k _ p
+    (s.node ∙ ap (λ x. after_commit (node_in w n) ticket.csn (verdict_at judge_view (node_in w n) request bound) x) (sym s.answer))
+    (s.keeper ∙ ap (after_commit_batch (keeper_in w n)) (sym s.answer)))
+
+commit-leaves_world : (w v : World) (n : ℕ) (ticket : NodeTicket) (request : Request) (bound : Identity) (now : ℕ) (result : Result Receipt (NodeTicket × CommitFault)) (left : Node) (k : Keeper) → Commits judge_view (node_in w n) ticket request bound now result left → IsAsked (keeper_in w n) (commit_asked result) k → v ≡ put_both w n left k → Leaves w n now (CallCommit ticket.life ticket.csn request bound) v
+commit-leaves_world w v n ticket request bound now (Ok receipt) left k s a p =
+    said-leaves w v n ticket receipt.csn request bound now left k (Committed receipt.csn) p (commit-said (node_in w n) left ticket (verdict_at judge_view (node_in w n) request bound) now (keeper_in w n) k receipt s a)
+commit-leaves_world w v n ticket request bound now (Err (back, commit.NoMemory)) left k s a p = inr (both-same w v n left k p s.1 a)
+commit-leaves_world w v n ticket request bound now (Err (back, commit.Stale life node_life)) left k s a p =
+    said-leaves w v n ticket back.csn request bound now left k (Stale node_life) p ((fault-says (node_in w n) left ticket back (verdict_at judge_view (node_in w n) request bound) now (keeper_in w n) k (commit.Stale life node_life) s a).says (Stale node_life) refl)
+commit-leaves_world w v n ticket request bound now (Err (back, commit.Refused answer)) left k s a p =
+    said-leaves w v n ticket back.csn request bound now left k (Refused answer) p ((fault-says (node_in w n) left ticket back (verdict_at judge_view (node_in w n) request bound) now (keeper_in w n) k (commit.Refused answer) s a).says (Refused answer) refl)
+commit-leaves_world w v n ticket request bound now (Err (back, commit.Exhausted last)) left k s a p =
+    said-leaves w v n ticket back.csn request bound now left k (CommitExhausted (generator_at last)) p ((fault-says (node_in w n) left ticket back (verdict_at judge_view (node_in w n) request bound) now (keeper_in w n) k (commit.Exhausted last) s a).says (CommitExhausted (generator_at last)) refl)
+commit-leaves_world w v n ticket request bound now (Err (back, commit.KeeperFault)) left k s a p =
+    said-leaves w v n ticket back.csn request bound now left k (KeeperFailed back.csn) p ((fault-says (node_in w n) left ticket back (verdict_at judge_view (node_in w n) request bound) now (keeper_in w n) k commit.KeeperFault s a).says (KeeperFailed back.csn) refl)
 
 -- only a ticket of the node's present life is committed
 pub committed-live : (met : Node) (ticket : NodeTicket) (verdict : Verdict) (now : ℕ) (receipt : Receipt) → commit_answer met ticket.life ticket.csn verdict now false ≡ Committed receipt.csn → ticket.life ≡ met.life
@@ -106,18 +130,35 @@ committed-live met ticket verdict now receipt e =
     stale_not : Stale met.life ≡ Committed receipt.csn → ⊥
     stale_not q = cc
 
--- a commit at a node that was started again since changes nothing
-stale-same : (w : World) (n : ℕ) (ticket : NodeTicket) (verdict : Verdict) (now : ℕ) (result : Result Receipt (NodeTicket × CommitFault)) (left : Node) → MatchResult result (λ _. Unit {0}) (λ (e : NodeTicket × CommitFault). e.1 ≢ commit.KeeperFault) → ticket.life ≢ (node_in w n).life → CommitsUnder (node_in w n) ticket verdict now result left → left ≡ node_in w n
-stale-same w n ticket verdict now (Ok receipt) left calm d s = absurd (d (committed-live (node_in w n) ticket verdict now receipt s.0.0))
-stale-same w n ticket verdict now (Err (back, fault)) left calm d s = (fault-says (node_in w n) ticket back verdict now fault left s calm).same_node
+-- and only for one of those does the keeper fail
+pub failed-live : (met : Node) (ticket : NodeTicket) (verdict : Verdict) (now : ℕ) (csn : Csn) (fails : Bool) → commit_answer met ticket.life ticket.csn verdict now fails ≡ KeeperFailed csn → ticket.life ≡ met.life
+failed-live met ticket verdict now csn fails e =
+    elim (cases_eq ticket.life met.life) [
+      | inl q ↦ q
+      | inr d ↦ absurd (stale_not (sym (if_false _ _ (ne_eqb ticket.life met.life d)) ∙ e))
+    ]
+  where
+    stale_not : Stale met.life ≡ KeeperFailed csn → ⊥
+    stale_not q = cc
 
-pub commit-kept : (w v : World) (n : ℕ) (ticket : NodeTicket) (request : Request) (bound : Identity) (now : ℕ) (result : Result Receipt (NodeTicket × CommitFault)) (left : Node) → IsKept w → IsNode w.nodes n → IsUsable w n ticket.life ticket.csn → MatchResult result (λ _. Unit {0}) (λ (e : NodeTicket × CommitFault). e.1 ≢ commit.KeeperFault) → Commits judge_view (node_in w n) ticket request bound now result left → v ≡ put w n left → IsKept v
-commit-kept w v n ticket request bound now result left k i u calm s p =
+-- a commit at a node that was started again since changes nothing
+stale-same : (met left : Node) (ticket : NodeTicket) (verdict : Verdict) (now : ℕ) (old new : Keeper) (result : Result Receipt (NodeTicket × CommitFault)) → ticket.life ≢ met.life → CommitsUnder met ticket verdict now result left → IsAsked old (commit_asked result) new → (left ≡ met) × (new ≡ old)
+stale-same met left ticket verdict now old new (Ok receipt) d s a = absurd (d (committed-live met ticket verdict now receipt s.0.0))
+stale-same met left ticket verdict now old new (Err (back, commit.NoMemory)) d s a = (s.1, a)
+stale-same met left ticket verdict now old new (Err (back, commit.Stale life node_life)) d s a = (s.0.1, a)
+stale-same met left ticket verdict now old new (Err (back, commit.Refused answer)) d s a = (s.0.1, a)
+stale-same met left ticket verdict now old new (Err (back, commit.Exhausted last)) d s a = (s.0.1, a)
+stale-same met left ticket verdict now old new (Err (back, commit.KeeperFault)) d s a = absurd (d (failed-live met ticket verdict now back.csn _ s.0.0))
+
+pub commit-kept : (w v : World) (n : ℕ) (ticket : NodeTicket) (request : Request) (bound : Identity) (now : ℕ) (result : Result Receipt (NodeTicket × CommitFault)) (left : Node) (k : Keeper) → IsKept w → IsNode w.nodes n → IsUsable w n ticket.life ticket.csn → Commits judge_view (node_in w n) ticket request bound now result left → IsAsked (keeper_in w n) (commit_asked result) k → v ≡ put_both w n left k → IsKept v
+commit-kept w v n ticket request bound now result left keeper k i u s a p =
     elim (cases_eq ticket.life (node_in w n).life) [
       | inl e ↦
           leaves-kept w n now (CallCommit ticket.life ticket.csn request bound) v k i (usable-open w n ticket.life ticket.csn k i u, u.free e)
-          (commit-leaves_world w v n ticket request bound now result left calm s p)
-      | inr d ↦ subst (λ x. IsKept x) (sym (put-same w v n left p (stale-same w n ticket (verdict_at judge_view (node_in w n) request bound) now result left calm d s))) k
+          (commit-leaves_world w v n ticket request bound now result left keeper s a p)
+      | inr d ↦
+          (let same = stale-same (node_in w n) left ticket (verdict_at judge_view (node_in w n) request bound) now (keeper_in w n) keeper result d s a in
+          subst (λ x. IsKept x) (sym (both-same w v n left keeper p same.0 same.1)) k)
     ]
 
 -- ---- abort and settle
@@ -148,20 +189,25 @@ release-kept w v n from left k i s p = leaves-kept w n w.clock (CallRelease from
 
 -- ---- apply
 
-apply-leaves_world : (w v : World) (n from : ℕ) (u : Update) (now : ℕ) (result : Result Applied ApplyFault) (left : Node) → Applies (node_in w n) from u now result left → v ≡ put w n left → Leaves w n now (CallApply from u) v
-apply-leaves_world w v n from u now (Ok applied) left s p = inl (put-as w v n left _ p (s.1 ∙ ap (λ a. after_apply (node_in w n) u.change a) (sym s.0)))
-apply-leaves_world w v n from u now (Err apply.NoMemory) left s p = inr (put-same w v n left p s)
-apply-leaves_world w v n from u now (Err apply.NotHolder) left s p = inr (put-same w v n left p s.1)
-apply-leaves_world w v n from u now (Err (apply.Malformed why)) left s p = inr (put-same w v n left p s.1)
-apply-leaves_world w v n from u now (Err (apply.OwnUnknown csn)) left s p = inr (put-same w v n left p s.1)
-apply-leaves_world w v n from u now (Err (apply.Skew csn late)) left s p = inr (put-same w v n left p s.1)
-apply-leaves_world w v n from u now (Err (apply.Gap have prev)) left s p = inr (put-same w v n left p s.1)
-apply-leaves_world w v n from u now (Err (apply.Missing id)) left s p = inr (put-same w v n left p s.1)
-apply-leaves_world w v n from u now (Err apply.KeeperFault) left s p = inr (put-same w v n left p s.1)
+applied-leaves : (w v : World) (n from : ℕ) (u : Update) (now : ℕ) (result : Result Applied ApplyFault) (left : Node) (k : Keeper) → v ≡ put_both w n left k → ApplySaid (node_in w n) left from u now (keeper_in w n) k result → Leaves w n now (CallApply from u) v
+applied-leaves w v n from u now result left k p s =
+    inl (both-as w v n left _ k _ p (s.node ∙ ap (λ x. after_apply (node_in w n) u.change x) (sym s.answer)) (s.keeper ∙ ap (after_apply_batch (keeper_in w n)) (sym s.answer)))
 
-pub apply-kept : (w v : World) (n from : ℕ) (u : Update) (now : ℕ) (result : Result Applied ApplyFault) (left : Node) → IsKept w → IsNode w.nodes n → IsFitting u → Applies (node_in w n) from u now result left → v ≡ put w n left → IsKept v
-apply-kept w v n from u now result left k i f s p =
-    leaves-kept w n now (CallApply from u) v k i f (apply-leaves_world w v n from u now result left s p)
+apply-leaves_world : (w v : World) (n from : ℕ) (u : Update) (now : ℕ) (result : Result Applied ApplyFault) (left : Node) (k : Keeper) → Applies (node_in w n) from u now result left → IsAsked (keeper_in w n) (apply_asked result) k → v ≡ put_both w n left k → Leaves w n now (CallApply from u) v
+apply-leaves_world w v n from u now (Ok Taken) left k s a p = applied-leaves w v n from u now _ left k p (apply-said (node_in w n) left from u now (keeper_in w n) k (Ok Taken) s a (λ e. cc))
+apply-leaves_world w v n from u now (Ok Duplicate) left k s a p = applied-leaves w v n from u now _ left k p (apply-said (node_in w n) left from u now (keeper_in w n) k (Ok Duplicate) s a (λ e. cc))
+apply-leaves_world w v n from u now (Err apply.NoMemory) left k s a p = inr (both-same w v n left k p s a)
+apply-leaves_world w v n from u now (Err apply.NotHolder) left k s a p = applied-leaves w v n from u now _ left k p (apply-said (node_in w n) left from u now (keeper_in w n) k (Err apply.NotHolder) s a (λ e. cc))
+apply-leaves_world w v n from u now (Err (apply.Malformed why)) left k s a p = applied-leaves w v n from u now _ left k p (apply-said (node_in w n) left from u now (keeper_in w n) k (Err (apply.Malformed why)) s a (λ e. cc))
+apply-leaves_world w v n from u now (Err (apply.OwnUnknown csn)) left k s a p = applied-leaves w v n from u now _ left k p (apply-said (node_in w n) left from u now (keeper_in w n) k (Err (apply.OwnUnknown csn)) s a (λ e. cc))
+apply-leaves_world w v n from u now (Err (apply.Skew csn late)) left k s a p = applied-leaves w v n from u now _ left k p (apply-said (node_in w n) left from u now (keeper_in w n) k (Err (apply.Skew csn late)) s a (λ e. cc))
+apply-leaves_world w v n from u now (Err (apply.Gap have prev)) left k s a p = applied-leaves w v n from u now _ left k p (apply-said (node_in w n) left from u now (keeper_in w n) k (Err (apply.Gap have prev)) s a (λ e. cc))
+apply-leaves_world w v n from u now (Err (apply.Missing id)) left k s a p = applied-leaves w v n from u now _ left k p (apply-said (node_in w n) left from u now (keeper_in w n) k (Err (apply.Missing id)) s a (λ e. cc))
+apply-leaves_world w v n from u now (Err apply.KeeperFault) left k s a p = applied-leaves w v n from u now _ left k p (apply-said (node_in w n) left from u now (keeper_in w n) k (Err apply.KeeperFault) s a (λ e. cc))
+
+pub apply-kept : (w v : World) (n from : ℕ) (u : Update) (now : ℕ) (result : Result Applied ApplyFault) (left : Node) (keeper : Keeper) → IsKept w → IsNode w.nodes n → IsFitting u → Applies (node_in w n) from u now result left → IsAsked (keeper_in w n) (apply_asked result) keeper → v ≡ put_both w n left keeper → IsKept v
+apply-kept w v n from u now result left keeper k i f s a p =
+    leaves-kept w n now (CallApply from u) v k i f (apply-leaves_world w v n from u now result left keeper s a p)
 
 -- ---- a node that was put
 

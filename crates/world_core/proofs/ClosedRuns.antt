@@ -14,9 +14,9 @@ use Rattle.node_core.specs.Steps.{NoTicket, Full, Exhausted, Judge, verdict_at, 
 use Rattle.node_core.specs.Sound.{IsOpen}
 use Rattle.node_core.proofs.ClosedSteps.{commit_closed, apply_closed, begin-taken, ended-taken, acquire-taken, released-taken}
 use Rattle.world_core.specs.declared.event.Event.{Event}
-use Rattle.world_core.specs.declared.event.Event.TheVariants.{Clock, Start, Commit, Settle, Abort, Acquire, Release, Offer, Deliver, Vector, Dump, Audit}
+use Rattle.world_core.specs.declared.event.Event.TheVariants.{Clock, Start, Commit, Settle, Abort, Acquire, Release, Offer, Deliver, Fail, Vector, Dump, Audit}
 use Rattle.world_core.specs.declared.event.Happened.{Happened}
-use Rattle.world_core.specs.World.{World, Ticket, Session, Offered, Outcome, Call, CallBegin, CallCommit, CallEnd, CallAcquire, CallRelease, CallApply, called, Deed, Happens, Calls, after, after_all, node_of, with_node, node_in, is_node, ticket_in, session_in, update_in, new_world, commit_at, release_at, apply_at, step, started, commit_ticket, end_ticket, acquired, acquire_of, offered, offer_in, deliver}
+use Rattle.world_core.specs.World.{World, Ticket, Session, Offered, Outcome, Call, CallBegin, CallCommit, CallEnd, CallAcquire, CallRelease, CallApply, called, Deed, Happens, Calls, after, after_all, is_failing, keeper_in, node_of, with_node, node_in, is_node, ticket_in, session_in, update_in, new_world, commit_at, release_at, apply_at, step, started, commit_ticket, end_ticket, acquired, acquire_of, offered, offer_in, deliver}
 use Rattle.world_core.specs.Laws.{IsNode, AreTicketsSound, IsLawful, IsFitting, MayCall, MayHappen, May, IsRun, IsSoundJudge, law_of_closed}
 use Rattle.world_core.proofs.Honest.{IsNode-with, at_each}
 use Rattle.world_core.proofs.Advances.{fits_of}
@@ -37,11 +37,11 @@ arrivals_same nodes r new i a e = arrivals_with nodes r new i a (subst (λ z. Is
 commit_at-arrivals : (judge : Judge) → IsSoundJudge judge → (w : World) (r life : ℕ) (csn : Csn) (request : Request) (bound : Identity) → IsReady w → IsNode w.nodes r → (life ≡ (node_in w r).life → IsOpen (node_in w r) csn) → AreArrivals w.nodes → AreArrivals (commit_at w r life csn (verdict_at judge (node_in w r) request bound)).nodes
 commit_at-arrivals judge sj w r life csn request bound i n o a =
     arrivals_with w.nodes r _ n a
-    (commit_closed (node_in w r) life csn (verdict_at judge (node_in w r) request bound) w.clock false (i.sound.sound r n) o (a r n)
+    (commit_closed (node_in w r) life csn (verdict_at judge (node_in w r) request bound) w.clock (is_failing (keeper_in w r)) (i.sound.sound r n) o (a r n)
     (λ target body e. sj (node_in w r).suffix (node_in w r).taken (closed_of_arrival (node_in w r).taken (a r n)) request bound target body e))
 
 apply_at-arrivals : (w : World) (r from : ℕ) (u : Update) → IsReady w → IsNode w.nodes r → IsFitting u → AreArrivals w.nodes → AreArrivals (apply_at w r from u).nodes
-apply_at-arrivals w r from u i n f a = arrivals_with w.nodes r _ n a (apply_closed (node_in w r) from u w.clock false (i.sound.sound r n) (fits_of u f) (a r n))
+apply_at-arrivals w r from u i n f a = arrivals_with w.nodes r _ n a (apply_closed (node_in w r) from u w.clock (is_failing (keeper_in w r)) (i.sound.sound r n) (fits_of u f) (a r n))
 
 release_at-arrivals : (w : World) (r from : ℕ) → IsNode w.nodes r → AreArrivals w.nodes → AreArrivals (release_at w r from).nodes
 release_at-arrivals w r from n a = arrivals_same w.nodes r _ n a (released-taken (node_in w r) from)
@@ -104,6 +104,7 @@ step-arrivals judge sj w (Offer a b) i s m c =
     if_cases (λ (o : Outcome). AreArrivals o.world.nodes) (is_node w a && is_node w b) _ _ (λ t. offer_in-arrivals w a (session_in w a b) c) (λ f. c)
 step-arrivals judge sj w (Deliver b u) i s m c =
     if_cases (λ (o : Outcome). AreArrivals o.world.nodes) (is_node w b) _ _ (λ t. deliver-arrivals w b u (update_in w u) refl i (is_node-means w b t) c) (λ f. c)
+step-arrivals judge sj w (Fail n j) i s m c = if_cases (λ (o : Outcome). AreArrivals o.world.nodes) (is_node w n) _ _ (λ t. c) (λ f. c)
 step-arrivals judge sj w (Vector n) i s m c = if_cases (λ (o : Outcome). AreArrivals o.world.nodes) (is_node w n) _ _ (λ t. c) (λ f. c)
 step-arrivals judge sj w (Dump n) i s m c = if_cases (λ (o : Outcome). AreArrivals o.world.nodes) (is_node w n) _ _ (λ t. c) (λ f. c)
 step-arrivals judge sj w (Audit n) i s m c = if_cases (λ (o : Outcome). AreArrivals o.world.nodes) (is_node w n) _ _ (λ t. c) (λ f. c)

@@ -17,9 +17,9 @@ use Rattle.node_core.proofs.Draws.{None-Some}
 use Rattle.node_core.proofs.Alone.{begin-alone, ended-alone, commit-alone, acquire-alone, released-alone}
 use Rattle.node_core.proofs.Offers.{IsOffer, offer-is}
 use Rattle.world_core.specs.declared.event.Event.{Event}
-use Rattle.world_core.specs.declared.event.Event.TheVariants.{Clock, Start, Commit, Settle, Abort, Acquire, Release, Offer, Deliver, Vector, Dump, Audit}
+use Rattle.world_core.specs.declared.event.Event.TheVariants.{Clock, Start, Commit, Settle, Abort, Acquire, Release, Offer, Deliver, Fail, Vector, Dump, Audit}
 use Rattle.world_core.specs.declared.event.Happened.{Happened}
-use Rattle.world_core.specs.World.{World, Ticket, Session, Offered, Outcome, Call, CallBegin, CallCommit, CallEnd, CallAcquire, CallRelease, CallApply, called, Deed, Happens, Calls, after, node_in, is_node, updates_of, ticket_in, session_in, update_in, begin_at, commit_at, end_at, acquire_at, release_at, apply_at, step, started, commit_ticket, end_ticket, acquired, acquire_of, offering, offered, offer_in, deliver}
+use Rattle.world_core.specs.World.{World, Ticket, Session, Offered, Outcome, Call, CallBegin, CallCommit, CallEnd, CallAcquire, CallRelease, CallApply, called, Deed, Happens, Calls, after, is_failing, keeper_in, node_in, is_node, updates_of, ticket_in, session_in, update_in, begin_at, commit_at, end_at, acquire_at, release_at, apply_at, step, started, commit_ticket, end_ticket, acquired, acquire_of, offering, offered, offer_in, deliver}
 use Rattle.world_core.specs.Laws.{IsNode, AreSound, AreTicketsSound, IsFitting, MayCall, MayHappen, May, IsHonestCall, IsHonestDeed}
 use Rattle.world_core.proofs.Advances.{Advance, advance-refl, advance_alone, advance_apply, advance_offer, find-Contains, slice_get-Contains}
 
@@ -50,7 +50,7 @@ begin_at-advances w r i n = advance_alone w.nodes (updates_of w) r _ i.sound i.f
 
 pub commit_at-advances : (w : World) (r life : ℕ) (csn : Csn) (verdict : Verdict) → IsReady w → IsNode w.nodes r → (life ≡ (node_in w r).life → IsOpen (node_in w r) csn) → Advances (Unit {0}) w (commit_at w r life csn verdict)
 commit_at-advances w r life csn verdict i n o =
-    advance_alone w.nodes (updates_of w) r _ i.sound i.fits n (commit-alone (node_in w r) life csn verdict w.clock false (i.sound.sound r n) o)
+    advance_alone w.nodes (updates_of w) r _ i.sound i.fits n (commit-alone (node_in w r) life csn verdict w.clock (is_failing (keeper_in w r)) (i.sound.sound r n) o)
 
 pub end_at-advances : (w : World) (r life : ℕ) (csn : Csn) → IsReady w → IsNode w.nodes r → Advances (Unit {0}) w (end_at w r life csn)
 end_at-advances w r life csn i n = advance_alone w.nodes (updates_of w) r _ i.sound i.fits n (ended-alone (node_in w r) life csn (i.sound.sound r n))
@@ -63,7 +63,7 @@ pub release_at-advances : (w : World) (r from : ℕ) → IsReady w → IsNode w.
 release_at-advances w r from i n = advance_alone w.nodes (updates_of w) r _ i.sound i.fits n (released-alone (node_in w r) from (i.sound.sound r n))
 
 pub apply_at-advances : (w : World) (r from : ℕ) (u : Update) → IsReady w → IsNode w.nodes r → IsFitting u → Advances (Contains (updates_of w) u) w (apply_at w r from u)
-apply_at-advances w r from u i n f = advance_apply w.nodes (updates_of w) r from u w.clock false i.sound i.fits n f
+apply_at-advances w r from u i n f = advance_apply w.nodes (updates_of w) r from u w.clock (is_failing (keeper_in w r)) i.sound i.fits n f
 
 -- where the premise holds
 settled : (H : Type 0) (w v : World) → H → Advances H w v → Advances (Unit {0}) w v
@@ -155,6 +155,7 @@ step-advances judge w (Offer a b) i s m =
     (λ f. stands w i)
 step-advances judge w (Deliver b u) i s m =
     if_cases (λ (o : Outcome). Advances (Unit {0}) w o.world) (is_node w b) _ _ (λ t. deliver-advances w b u (update_in w u) refl i (is_node-means w b t)) (λ f. stands w i)
+step-advances judge w (Fail n j) i s m = if_cases (λ (o : Outcome). Advances (Unit {0}) w o.world) (is_node w n) _ _ (λ t. stands w i) (λ f. stands w i)
 step-advances judge w (Vector n) i s m = if_cases (λ (o : Outcome). Advances (Unit {0}) w o.world) (is_node w n) _ _ (λ t. stands w i) (λ f. stands w i)
 step-advances judge w (Dump n) i s m = if_cases (λ (o : Outcome). Advances (Unit {0}) w o.world) (is_node w n) _ _ (λ t. stands w i) (λ f. stands w i)
 step-advances judge w (Audit n) i s m = if_cases (λ (o : Outcome). Advances (Unit {0}) w o.world) (is_node w n) _ _ (λ t. stands w i) (λ f. stands w i)

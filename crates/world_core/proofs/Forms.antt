@@ -18,7 +18,7 @@ use Rattle.node_core.specs.Steps.{NoTicket, Full, Exhausted, Judge, is_prev, or_
 use Rattle.node_core.proofs.Offers.{IsOffer, offer-is}
 use Rattle.node_core.proofs.Prevs.{prev_in-fits}
 use Rattle.world_core.specs.declared.event.Event.{Event}
-use Rattle.world_core.specs.declared.event.Event.TheVariants.{Clock, Start, Commit, Settle, Abort, Acquire, Release, Offer, Deliver, Vector, Dump, Audit}
+use Rattle.world_core.specs.declared.event.Event.TheVariants.{Clock, Start, Commit, Settle, Abort, Acquire, Release, Offer, Deliver, Fail, Vector, Dump, Audit}
 use Rattle.world_core.specs.declared.event.Happened.{Happened}
 use Rattle.world_core.specs.World.{World, Ticket, Session, Offered, Outcome, Call, CallBegin, CallCommit, CallEnd, CallAcquire, CallRelease, CallApply, called, Deed, Happens, Calls, after, after_all, node_in, is_node, updates_of, ticket_in, session_in, update_in, new_world, step, started, commit_ticket, end_ticket, acquired, acquire_of, offering, offered, offer_in, deliver}
 use Rattle.world_core.specs.Laws.{IsNode, IsLawful, IsRun, IsSoundJudge, AreFormed, law_of_forms}
@@ -91,6 +91,7 @@ step-formed judge w (Release a b) i c f = if_cases (λ (o : Outcome). AreFormed 
 step-formed judge w (Offer a b) i c f =
     if_cases (λ (o : Outcome). AreFormed o.world) (is_node w a && is_node w b) _ _ (λ t. offer_in-formed w a (session_in w a b) i (both w a b t).0 c f) (λ e. f)
 step-formed judge w (Deliver b u) i c f = if_cases (λ (o : Outcome). AreFormed o.world) (is_node w b) _ _ (λ t. deliver-formed w b (update_in w u) f) (λ e. f)
+step-formed judge w (Fail n j) i c f = if_cases (λ (o : Outcome). AreFormed o.world) (is_node w n) _ _ (λ t. f) (λ e. f)
 step-formed judge w (Vector n) i c f = if_cases (λ (o : Outcome). AreFormed o.world) (is_node w n) _ _ (λ t. f) (λ e. f)
 step-formed judge w (Dump n) i c f = if_cases (λ (o : Outcome). AreFormed o.world) (is_node w n) _ _ (λ t. f) (λ e. f)
 step-formed judge w (Audit n) i c f = if_cases (λ (o : Outcome). AreFormed o.world) (is_node w n) _ _ (λ t. f) (λ e. f)

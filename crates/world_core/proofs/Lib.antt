@@ -14,6 +14,9 @@ pub mod Finding
 pub mod TicketPlaces
 pub mod Outcomes
 pub mod TakenLaws
+pub mod OneOf
+pub mod AskedKeepers
+pub mod NodePlaces
 pub mod Failures
 pub mod SessionSteps
 pub mod RaisedVectors

@@ -1,6 +1,6 @@
 -- What each event of a session comes to, from the parts that the code finds.
-use Rattle.std.proofs.Common.{◌≡◌, ◌≢◌, ℕ, ◌+◌, false, ◌&&◌, ◌==◌, List, [], ◌∷◌, ◌++◌, length, refl, sym, ap, subst, ◌∙◌, Some, None, eqb-true}
-use Rattle.std.specs.Prelude.{Result, Ok, Err}
+use Rattle.std.proofs.Common.{◌≡◌, ◌≢◌, ℕ, ◌+◌, ◌&&◌, ◌==◌, List, [], ◌∷◌, ◌++◌, length, refl, sym, ap, subst, ◌∙◌, Some, None, eqb-true}
+use Rattle.std.specs.Prelude.{Result, Err}
 use Rattle.std.proofs.lemmas.Bool.{and_parts}
 use Rattle.repl_data.specs.declared.csn.Csn.{Csn}
 use Rattle.repl_data.specs.declared.change.Update.{Update}
@@ -11,22 +11,24 @@ use Rattle.vector_core.specs.declared.answers.ApplyFault.TheVariants as apply
 use Rattle.vector_core.specs.declared.answers.AcquireFault.{AcquireFault}
 use Rattle.vector_core.specs.declared.answers.AcquireFault.TheVariants as acquire
 use Rattle.node_core.specs.Node.{Node, raised, vector_of}
-use Rattle.node_core.specs.Steps.{offer, apply_answer, after_apply, acquire_fault, after_acquire}
+use Rattle.node_core.specs.Steps.{offer, after_apply, acquire_fault, after_acquire}
 use Rattle.node_core.specs.Calls.{Acquires, Applies}
 use Rattle.world_core.specs.declared.event.Happened.{Happened}
 use Rattle.world_core.specs.declared.event.Happened.TheVariants as what
-use Rattle.world_core.specs.World.{World, Session, Offered, with_node, node_in, session_in, with_session, acquired, acquire_of, offered, offer_in, deliver}
+use Rattle.world_core.specs.Nodes.{IsOneOf, KeptNodes, with_one}
+use Rattle.world_core.specs.World.{World, Keeper, Session, Offered, after_apply_batch, keeper_in, keeper_of, node_of, node_in, session_in, with_session, acquired, acquire_of, offered, offer_in, deliver}
 use Rattle.world_core.proofs.Advances.{find-Contains}
-use Rattle.world_core.proofs.Outcomes.{same_node}
+use Rattle.world_core.proofs.AskedKeepers.{ApplySaid}
+use Rattle.world_core.proofs.OneOf.{alone, kept_nodes, one_same, with_alone, with_kept}
 
 -- ---- acquire
 
-pub acquire-done : (w : World) (a b : ℕ) (left : Node) (nodes : List Node) (sessions : List Session) → acquire_of w a b ≡ None → left ≡ after_acquire (node_in w b) a None → nodes ≡ with_node w.nodes b left → sessions ≡ with_session (record { supplier = a; consumer = b; cursor = vector_of (node_in w b) }) w.sessions → acquired w a b (acquire_of w a b) ≡ record { world = record w { nodes = nodes; sessions = sessions }; happened = what.Acquired }
-acquire-done w a b left nodes sessions e l p q =
+pub acquire-done : (w : World) (a b : ℕ) (ns : KeptNodes) (sessions : List Session) → acquire_of w a b ≡ None → node_of ns.nodes b ≡ after_acquire (node_in w b) a None → IsOneOf (kept_nodes w) b ns → keeper_of ns.keepers b ≡ keeper_in w b → sessions ≡ with_session (record { supplier = a; consumer = b; cursor = vector_of (node_in w b) }) w.sessions → acquired w a b (acquire_of w a b) ≡ record { world = record (with_kept w ns) { sessions = sessions }; happened = what.Acquired }
+acquire-done w a b ns sessions e l o s q =
     ap (λ o. acquired w a b o) e
-    ∙ ap (λ (x : List Node × List Session). record { world = record w { nodes = x.0; sessions = x.1 }; happened = what.Acquired })
-    (ap (λ ns. (ns, with_session (record { supplier = a; consumer = b; cursor = vector_of (node_in w b) }) w.sessions)) (ap (λ o. with_node w.nodes b (after_acquire (node_in w b) a o)) e ∙ ap (λ m. with_node w.nodes b m) (sym l) ∙ sym p)
-    ∙ ap (λ ss. (nodes, ss)) (sym q))
+    ∙ ap (λ (x : KeptNodes × List Session). record { world = record (with_kept w x.0) { sessions = x.1 }; happened = what.Acquired })
+    (ap (λ (x : KeptNodes). (x, with_session (record { supplier = a; consumer = b; cursor = vector_of (node_in w b) }) w.sessions)) (ap (λ o. with_alone (kept_nodes w) b (after_acquire (node_in w b) a o)) e ∙ ap (λ m. with_alone (kept_nodes w) b m) (sym l) ∙ sym (alone (kept_nodes w) ns b o s))
+    ∙ ap (λ ss. (ns, ss)) (sym q))
 
 acquires-failed : (met : Node) (start : Start) (now : ℕ) (fault : AcquireFault) (left : Node) → Acquires met start now (Err fault) left → (fault ≢ acquire.NoMemory) → (acquire_fault met start.suffix start.rid start.front now ≡ Some fault) × (left ≡ met)
 acquires-failed met start now acquire.NoMemory left h n = absurd (n refl)
@@ -35,33 +37,22 @@ acquires-failed met start now acquire.SameId left h n = h
 acquires-failed met start now (acquire.Busy rid) left h n = h
 acquires-failed met start now (acquire.Skew csn at) left h n = h
 
-pub acquire-refused : (w : World) (a b : ℕ) (fault : AcquireFault) (left : Node) (nodes : List Node) → Acquires (node_in w b) (record { suffix = (node_in w a).suffix.name; rid = a; front = vector_of (node_in w a) }) w.clock (Err fault) left → (fault ≢ acquire.NoMemory) → nodes ≡ with_node w.nodes b left → acquired w a b (acquire_of w a b) ≡ record { world = record w { nodes = nodes }; happened = what.AcquireRefused fault }
-acquire-refused w a b fault left nodes h n p =
-    let f = acquires-failed (node_in w b) (record { suffix = (node_in w a).suffix.name; rid = a; front = vector_of (node_in w a) }) w.clock fault left h n in
+pub acquire-refused : (w : World) (a b : ℕ) (fault : AcquireFault) (ns : KeptNodes) → Acquires (node_in w b) (record { suffix = (node_in w a).suffix.name; rid = a; front = vector_of (node_in w a) }) w.clock (Err fault) (node_of ns.nodes b) → (fault ≢ acquire.NoMemory) → IsOneOf (kept_nodes w) b ns → keeper_of ns.keepers b ≡ keeper_in w b → acquired w a b (acquire_of w a b) ≡ record { world = with_kept w ns; happened = what.AcquireRefused fault }
+acquire-refused w a b fault ns h n o s =
+    let f = acquires-failed (node_in w b) (record { suffix = (node_in w a).suffix.name; rid = a; front = vector_of (node_in w a) }) w.clock fault (node_of ns.nodes b) h n in
     ap (λ o. acquired w a b o) f.0
-    ∙ ap (λ ns. record { world = record w { nodes = ns }; happened = what.AcquireRefused fault }) (sym (p ∙ ap (λ m. with_node w.nodes b m) f.1 ∙ same_node w.nodes b))
+    ∙ ap (λ (x : KeptNodes). record { world = with_kept w x; happened = what.AcquireRefused fault }) (sym (one_same (kept_nodes w) ns b o f.1 s))
 
 -- ---- deliver
 
-pub applies-said : (met : Node) (from : ℕ) (u : Update) (now : ℕ) (answer : Result Applied ApplyFault) (left : Node) → Applies met from u now answer left → (answer ≢ Err apply.NoMemory) → (answer ≢ Err apply.KeeperFault) → (apply_answer met from u now false ≡ answer) × (left ≡ after_apply met u.change answer)
-applies-said met from u now (Ok applied) left h n k = h
-applies-said met from u now (Err apply.NoMemory) left h n k = absurd (n refl)
-applies-said met from u now (Err apply.KeeperFault) left h n k = absurd (k refl)
-applies-said met from u now (Err apply.NotHolder) left h n k = h
-applies-said met from u now (Err (apply.Malformed why)) left h n k = h
-applies-said met from u now (Err (apply.OwnUnknown csn)) left h n k = h
-applies-said met from u now (Err (apply.Skew csn at)) left h n k = h
-applies-said met from u now (Err (apply.Gap have prev)) left h n k = h
-applies-said met from u now (Err (apply.Missing id)) left h n k = h
-
-pub deliver-done : (w : World) (b : ℕ) (o : Offered) (answer : Result Applied ApplyFault) (left : Node) (nodes : List Node) (happened : Happened) → Applies (node_in w b) o.supplier o.update w.clock answer left → (answer ≢ Err apply.KeeperFault) → nodes ≡ with_node w.nodes b left → (happened ≡ what.Delivered answer) × (answer ≢ Err apply.NoMemory) → deliver w b (Some o) ≡ record { world = record w { nodes = nodes }; happened = happened }
-deliver-done w b o answer left nodes happened h k p t =
-    let s = applies-said (node_in w b) o.supplier o.update w.clock answer left h t.1 k in
-    ap (λ (x : List Node × Happened). record { world = record w { nodes = x.0 }; happened = x.1 })
-    (ap (λ x. (with_node w.nodes b (after_apply (node_in w b) o.update.change x), what.Delivered x)) s.0
-    ∙ ap (λ m. (with_node w.nodes b m, what.Delivered answer)) (sym s.1)
-    ∙ ap (λ ns. (ns, what.Delivered answer)) (sym p)
-    ∙ ap (λ x. (nodes, x)) (sym t.0))
+pub deliver-done : (w : World) (b : ℕ) (o : Offered) (answer : Result Applied ApplyFault) (ns : KeptNodes) (happened : Happened) → ApplySaid (node_in w b) (node_of ns.nodes b) o.supplier o.update w.clock (keeper_in w b) (keeper_of ns.keepers b) answer → IsOneOf (kept_nodes w) b ns → happened ≡ what.Delivered answer → deliver w b (Some o) ≡ record { world = with_kept w ns; happened = happened }
+deliver-done w b o answer ns happened s p t =
+    ap (λ (x : KeptNodes × Happened). record { world = with_kept w x.0; happened = x.1 })
+    (ap (λ x. (with_one (kept_nodes w) b (after_apply (node_in w b) o.update.change x) (after_apply_batch (keeper_in w b) x), what.Delivered x)) s.answer
+    ∙ ap (λ m. (with_one (kept_nodes w) b m (after_apply_batch (keeper_in w b) answer), what.Delivered answer)) (sym s.node)
+    ∙ ap (λ (k : Keeper). (with_one (kept_nodes w) b (node_of ns.nodes b) k, what.Delivered answer)) (sym s.keeper)
+    ∙ ap (λ (x : KeptNodes). (x, what.Delivered answer)) (sym p)
+    ∙ ap (λ x. (ns, x)) (sym t))
 
 pub deliver-not : (met : Node) (from : ℕ) (u : Update) (now : ℕ) (answer : Result Applied ApplyFault) (left : Node) → Applies met from u now answer left → answer ≡ Err apply.NoMemory → left ≡ met
 deliver-not met from u now answer left h e = subst (λ a. Applies met from u now a left) e h

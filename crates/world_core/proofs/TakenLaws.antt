@@ -1,5 +1,5 @@
 -- The change of each committed ticket stays taken, and so a world stays as its type keeps it.
-use Rattle.std.proofs.Common.{◌≡◌, ℕ, ◌⊎◌, inl, inr, true, false, ◌&&◌, ◌==◌, List, [], ◌∷◌, ◌++◌, refl, sym, ap, subst, ◌∙◌, arith, Contains, Option, Some, None}
+use Rattle.std.proofs.Common.{◌≡◌, ℕ, ◌⊎◌, inl, inr, Bool, true, false, ◌&&◌, ◌==◌, List, [], ◌∷◌, ◌++◌, refl, sym, ap, subst, ◌∙◌, arith, Contains, Option, Some, None}
 use Rattle.std.specs.Prelude.{◌≤◌, IfSome, IfOk, OnErr, Result, Ok, Err}
 use Rattle.std.proofs.lemmas.Bool.{cases_Bool, true≢false}
 use Rattle.std.proofs.lemmas.List.Elements.{Contains-push}
@@ -20,10 +20,10 @@ use Rattle.node_core.specs.Node.{Node}
 use Rattle.ldap_rules.specs.Laws.{change_at}
 use Rattle.node_core.specs.Steps.{NoTicket, Full, Exhausted, Judge, judge_view, begin_answer, offer, CommitAnswer, Stale, Refused, CommitExhausted, KeeperFailed, Committed, commit_answer, judged, with_csn, written, after_commit}
 use Rattle.world_core.specs.declared.event.Event.{Event}
-use Rattle.world_core.specs.declared.event.Event.TheVariants.{Clock, Start, Commit, Settle, Abort, Acquire, Release, Offer, Deliver, Vector, Dump, Audit}
+use Rattle.world_core.specs.declared.event.Event.TheVariants.{Clock, Start, Commit, Settle, Abort, Acquire, Release, Offer, Deliver, Fail, Vector, Dump, Audit}
 use Rattle.world_core.specs.declared.event.Happened.{Happened}
 use Rattle.world_core.specs.declared.event.Happened.TheVariants as what
-use Rattle.world_core.specs.World.{World, Ticket, Session, Offered, Outcome, Call, CallBegin, CallCommit, CallEnd, CallAcquire, CallRelease, CallApply, Happens, Calls, called, node_of, with_node, node_in, is_node, new_world, ticket_in, with_ticket, new_ticket, session_in, update_in, ticket_verdict, ticket_answer, step, started, ticket_after, commit_ticket, end_ticket, acquired, acquire_of, offered, offer_in, deliver}
+use Rattle.world_core.specs.World.{World, Ticket, Session, Offered, Outcome, Call, CallBegin, CallCommit, CallEnd, CallAcquire, CallRelease, CallApply, Happens, Calls, called, is_failing, keeper_in, node_of, with_node, node_in, is_node, new_world, ticket_in, with_ticket, new_ticket, session_in, update_in, ticket_verdict, ticket_answer, step, started, ticket_after, commit_ticket, end_ticket, acquired, acquire_of, offered, offer_in, deliver}
 use Rattle.world_core.specs.Laws.{IsNode, AllGoOn, May, MayHappen, IsHonest, AreRising}
 use Rattle.world_core.specs.Taken.{AreTaken, IsKept}
 use Rattle.world_core.proofs.Honest.{node_of-here}
@@ -34,30 +34,30 @@ use Rattle.world_core.proofs.Kept.{ready, after-lawful, after-honest}
 
 -- ---- a committed answer is to a write, which is taken
 
-committed-is : (n : Node) (csn : Csn) (v : Verdict) (now : ℕ) (new : Csn) → judged n csn v now false ≡ Committed new → (target : Option Uid) × (body : Body) × (v ≡ Writes target body)
-committed-is n csn (Refuses result) now new e = absurd (cc_of e)
+committed-is : (n : Node) (csn : Csn) (v : Verdict) (now : ℕ) (fails : Bool) (new : Csn) → judged n csn v now fails ≡ Committed new → (target : Option Uid) × (body : Body) × (v ≡ Writes target body)
+committed-is n csn (Refuses result) now fails new e = absurd (cc_of e)
   where
     cc_of : Refused result ≡ Committed new → ⊥
     cc_of q = cc
-committed-is n csn (Answers result) now new e = absurd (cc_of e)
+committed-is n csn (Answers result) now fails new e = absurd (cc_of e)
   where
     cc_of : Refused result ≡ Committed new → ⊥
     cc_of q = cc
-committed-is n csn (Writes target body) now new e = (target, body, refl)
+committed-is n csn (Writes target body) now fails new e = (target, body, refl)
 
-committed-here : (n : Node) (life : ℕ) (csn : Csn) (v : Verdict) (now : ℕ) (new : Csn) → commit_answer n life csn v now false ≡ Committed new → judged n csn v now false ≡ Committed new
-committed-here n life csn v now new e =
+committed-here : (n : Node) (life : ℕ) (csn : Csn) (v : Verdict) (now : ℕ) (fails : Bool) (new : Csn) → commit_answer n life csn v now fails ≡ Committed new → judged n csn v now fails ≡ Committed new
+committed-here n life csn v now fails new e =
     elim (cases_Bool (life == n.life)) [
-      | inl t ↦ sym (if_true (judged n csn v now false) (Stale n.life) t) ∙ e
-      | inr f ↦ absurd (stale_not (sym (if_false (judged n csn v now false) (Stale n.life) f) ∙ e))
+      | inl t ↦ sym (if_true (judged n csn v now fails) (Stale n.life) t) ∙ e
+      | inr f ↦ absurd (stale_not (sym (if_false (judged n csn v now fails) (Stale n.life) f) ∙ e))
     ]
   where
     stale_not : Stale n.life ≡ Committed new → ⊥
     stale_not q = cc
 
-pub taken-new : (n : Node) (life : ℕ) (csn : Csn) (v : Verdict) (now : ℕ) (new : Csn) → commit_answer n life csn v now false ≡ Committed new → Contains (csns_of (after_commit n csn v (Committed new)).taken) new
-taken-new n life csn v now new e =
-    let w = committed-is n csn v now new (committed-here n life csn v now new e) in
+pub taken-new : (n : Node) (life : ℕ) (csn : Csn) (v : Verdict) (now : ℕ) (fails : Bool) (new : Csn) → commit_answer n life csn v now fails ≡ Committed new → Contains (csns_of (after_commit n csn v (Committed new)).taken) new
+taken-new n life csn v now fails new e =
+    let w = committed-is n csn v now fails new (committed-here n life csn v now fails new e) in
     subst (λ x. Contains (csns_of (written (with_csn n csn new) x new).taken) new) (sym w.2)
     (map-Contains (λ (c : Change). c.csn) ((with_csn n csn new).taken ++ change_at new w.0 w.1 ∷ []) (change_at new w.0 w.1) (Contains-push (with_csn n csn new).taken (change_at new w.0 w.1)))
 
@@ -104,7 +104,7 @@ commit-joins judge w k t f o i r a e v p q s c =
     held (Committed new) y z m =
         subst (λ ns. Contains (csns_of (node_of ns t.node).taken) new) (sym z)
         (subst (λ x. Contains (csns_of x.taken) new) (sym (node_of-here w.nodes t.node _ i))
-        (taken-new (node_in w t.node) t.life t.csn (ticket_verdict judge w t) w.clock new y))
+        (taken-new (node_in w t.node) t.life t.csn (ticket_verdict judge w t) w.clock (is_failing (keeper_in w t.node)) new y))
 
 commit_ticket-joins : (judge : Judge) (w : World) (k : ℕ) (o : Option Ticket) → ticket_in w k ≡ o → IfSome o (λ (t : Ticket). t.committed ≡ false) → ((t : Ticket) → Contains w.tickets t → IsNode w.nodes t.node) → AreRising w.tickets → Joins w (commit_ticket judge w o).world
 commit_ticket-joins judge w k None e m at r = λ t c. inl c
@@ -143,6 +143,7 @@ step-joins judge w (Release a b) k m = if_cases (λ (o : Outcome). Joins w o.wor
 step-joins judge w (Offer a b) k m =
     if_cases (λ (o : Outcome). Joins w o.world) (is_node w a && is_node w b) _ _ (λ e. offer_in-joins w a (session_in w a b)) (λ f t c. inl c)
 step-joins judge w (Deliver b u) k m = if_cases (λ (o : Outcome). Joins w o.world) (is_node w b) _ _ (λ e. deliver-joins w b (update_in w u)) (λ f t c. inl c)
+step-joins judge w (Fail n j) k m = if_cases (λ (o : Outcome). Joins w o.world) (is_node w n) _ _ (λ e t c. inl c) (λ f t c. inl c)
 step-joins judge w (Vector n) k m = if_cases (λ (o : Outcome). Joins w o.world) (is_node w n) _ _ (λ e t c. inl c) (λ f t c. inl c)
 step-joins judge w (Dump n) k m = if_cases (λ (o : Outcome). Joins w o.world) (is_node w n) _ _ (λ e t c. inl c) (λ f t c. inl c)
 step-joins judge w (Audit n) k m = if_cases (λ (o : Outcome). Joins w o.world) (is_node w n) _ _ (λ e t c. inl c) (λ f t c. inl c)

@@ -17,9 +17,9 @@ use Rattle.node_core.proofs.Draws.{draw-above, reached_below, begun-drawn}
 use Rattle.node_core.proofs.NodeSteps.{drawn-above}
 use Rattle.node_core.proofs.Spares.{Spares, Unused, IsThat, IsEnded, CommitLeaves, begin-spares, ended-spares, acquire-spares, released-spares, apply-spares, commit_leaves}
 use Rattle.world_core.specs.declared.event.Event.{Event}
-use Rattle.world_core.specs.declared.event.Event.TheVariants.{Clock, Start, Commit, Settle, Abort, Acquire, Release, Offer, Deliver, Vector, Dump, Audit}
+use Rattle.world_core.specs.declared.event.Event.TheVariants.{Clock, Start, Commit, Settle, Abort, Acquire, Release, Offer, Deliver, Fail, Vector, Dump, Audit}
 use Rattle.world_core.specs.declared.event.Happened.{Happened}
-use Rattle.world_core.specs.World.{World, Ticket, Session, Offered, Outcome, CallBegin, CallCommit, CallEnd, CallAcquire, CallRelease, CallApply, Deed, Happens, Calls, after, node_of, with_node, node_in, is_node, ticket_in, without_ticket, with_ticket, new_ticket, session_in, update_in, ticket_verdict, ticket_answer, apply_at, step, started, ticket_after, commit_ticket, end_ticket, acquired, acquire_of, release, offered, offer_in, deliver}
+use Rattle.world_core.specs.World.{World, Ticket, Session, Offered, Outcome, CallBegin, CallCommit, CallEnd, CallAcquire, CallRelease, CallApply, Deed, Happens, Calls, after, is_failing, keeper_in, node_of, with_node, node_in, is_node, ticket_in, without_ticket, with_ticket, new_ticket, session_in, update_in, ticket_verdict, ticket_answer, apply_at, step, started, ticket_after, commit_ticket, end_ticket, acquired, acquire_of, release, offered, offer_in, deliver}
 use Rattle.node_core.specs.Calls.{IsWrite}
 use Rattle.world_core.specs.Laws.{IsNode, AreTicketsSound, IsLive, IsFitting, MayHappen, May}
 use Rattle.world_core.proofs.Honest.{node_of-here, with-IsNode}
@@ -134,7 +134,7 @@ commit_ticket-tickets judge w k None e m i s = s
 commit_ticket-tickets judge w k (Some t) e m i s =
     let c = ticket-Contains w k t e in
     commit-tickets w t (ticket_verdict judge w t) (ticket_answer judge w t) c m i s
-    (commit_leaves (node_in w t.node) t.life t.csn (ticket_verdict judge w t) w.clock false (i.sound.sound t.node (s.at_node t c)) (λ live. s.open_ones t c live m))
+    (commit_leaves (node_in w t.node) t.life t.csn (ticket_verdict judge w t) w.clock (is_failing (keeper_in w t.node)) (i.sound.sound t.node (s.at_node t c)) (λ live. s.open_ones t c live m))
 
 end_ticket-tickets : (w : World) (k : ℕ) (happened : Ticket → Happened) (o : Option Ticket) → ticket_in w k ≡ o → AreTicketsSound w.nodes w.tickets → AreTicketsSound (end_ticket w happened o).world.nodes (end_ticket w happened o).world.tickets
 end_ticket-tickets w k happened None e s = s
@@ -149,7 +149,7 @@ abbrev SoundAfter : World → Type 0
 SoundAfter v = AreTicketsSound v.nodes v.tickets
 
 apply_at-tickets : (w : World) (r from : ℕ) (u : Update) → IsReady w → IsNode w.nodes r → IsFitting u → SoundAfter w → SoundAfter (apply_at w r from u)
-apply_at-tickets w r from u i n m s = tickets_with w.nodes w.tickets r _ Unused n (apply-spares (node_in w r) from u w.clock false (i.sound.sound r n) (fits_of u m)) (none_used w.tickets w.nodes r) s
+apply_at-tickets w r from u i n m s = tickets_with w.nodes w.tickets r _ Unused n (apply-spares (node_in w r) from u w.clock (is_failing (keeper_in w r)) (i.sound.sound r n) (fits_of u m)) (none_used w.tickets w.nodes r) s
 
 release-tickets : (w : World) (a b : ℕ) → IsNode w.nodes b → SoundAfter w → SoundAfter (release w a b)
 release-tickets w a b n s = tickets_with w.nodes w.tickets b _ Unused n (released-spares (node_in w b) a) (none_used w.tickets w.nodes b) s
@@ -188,6 +188,7 @@ step-tickets judge w (Offer a b) i m s =
     if_cases (λ (o : Outcome). SoundAfter o.world) (is_node w a && is_node w b) _ _ (λ t. offer_in-tickets w a (session_in w a b) s) (λ f. s)
 step-tickets judge w (Deliver b u) i m s =
     if_cases (λ (o : Outcome). SoundAfter o.world) (is_node w b) _ _ (λ t. deliver-tickets w b u (update_in w u) refl i (is_node-means w b t) s) (λ f. s)
+step-tickets judge w (Fail n j) i m s = if_cases (λ (o : Outcome). SoundAfter o.world) (is_node w n) _ _ (λ t. s) (λ f. s)
 step-tickets judge w (Vector n) i m s = if_cases (λ (o : Outcome). SoundAfter o.world) (is_node w n) _ _ (λ t. s) (λ f. s)
 step-tickets judge w (Dump n) i m s = if_cases (λ (o : Outcome). SoundAfter o.world) (is_node w n) _ _ (λ t. s) (λ f. s)
 step-tickets judge w (Audit n) i m s = if_cases (λ (o : Outcome). SoundAfter o.world) (is_node w n) _ _ (λ t. s) (λ f. s)

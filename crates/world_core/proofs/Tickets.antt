@@ -8,7 +8,7 @@ use Rattle.node_core.specs.Node.{Node}
 use Rattle.node_core.specs.Steps.{Judge, verdict_at, begin_answer, CommitAnswer, Stale, Refused, CommitExhausted, KeeperFailed, Committed, after_commit, acquire_fault}
 use Rattle.node_core.specs.Sound.{IsOpen}
 use Rattle.node_core.proofs.Spares.{Spares, Unused, IsEnded, CommitLeaves, begin-spares, ended-spares, acquire-spares, released-spares, apply-spares, commit_leaves}
-use Rattle.world_core.specs.World.{World, Ticket, Call, CallBegin, CallCommit, CallEnd, CallAcquire, CallRelease, CallApply, called, node_of, with_node, node_in, without_ticket, with_ticket, committing}
+use Rattle.world_core.specs.World.{World, Ticket, Call, CallBegin, CallCommit, CallEnd, CallAcquire, CallRelease, CallApply, called, is_failing, keeper_in, node_of, with_node, node_in, without_ticket, with_ticket, committing}
 use Rattle.node_core.specs.Calls.{IsWrite}
 use Rattle.world_core.specs.Laws.{IsNode, AreTicketsSound, AreRising, IsLive, IsNoTicket, MayCall}
 use Rattle.world_core.proofs.Honest.{node_of-here, node_of-apart, with-IsNode}
@@ -119,7 +119,7 @@ pub called-tickets : (judge : Judge) (w : World) (r : ℕ) (call : Call) → IsR
 called-tickets judge w r CallBegin i n m s = tickets_with w.nodes w.tickets r _ Unused n (begin-spares (node_in w r) (begin_answer (node_in w r) w.clock)) (none_used w.tickets w.nodes r) s
 called-tickets judge w r (CallCommit life csn request bound) i n m s =
     tickets_with w.nodes w.tickets r _ (IsEnded (node_in w r) life csn) n
-    (spares_of (verdict_at judge (node_in w r) request bound) (committing w r life csn (verdict_at judge (node_in w r) request bound)) (commit_leaves (node_in w r) life csn (verdict_at judge (node_in w r) request bound) w.clock false (i.sound.sound r n) m.0))
+    (spares_of (verdict_at judge (node_in w r) request bound) (committing w r life csn (verdict_at judge (node_in w r) request bound)) (commit_leaves (node_in w r) life csn (verdict_at judge (node_in w r) request bound) w.clock (is_failing (keeper_in w r)) (i.sound.sound r n) m.0))
     (not_that w r life csn m.1) s
   where
     spares_of : (v : Verdict) (a : CommitAnswer) → CommitLeaves (node_in w r) life csn v a → Spares (node_in w r) (after_commit (node_in w r) csn v a) (IsEnded (node_in w r) life csn)
@@ -134,4 +134,4 @@ called-tickets judge w r (CallAcquire suffix from vector) i n m s =
     tickets_with w.nodes w.tickets r _ Unused n (acquire-spares (node_in w r) from (acquire_fault (node_in w r) suffix from vector w.clock)) (none_used w.tickets w.nodes r) s
 called-tickets judge w r (CallRelease from) i n m s = tickets_with w.nodes w.tickets r _ Unused n (released-spares (node_in w r) from) (none_used w.tickets w.nodes r) s
 called-tickets judge w r (CallApply from u) i n m s =
-    tickets_with w.nodes w.tickets r _ Unused n (apply-spares (node_in w r) from u w.clock false (i.sound.sound r n) (fits_of u m)) (none_used w.tickets w.nodes r) s
+    tickets_with w.nodes w.tickets r _ Unused n (apply-spares (node_in w r) from u w.clock (is_failing (keeper_in w r)) (i.sound.sound r n) (fits_of u m)) (none_used w.tickets w.nodes r) s

@@ -1,5 +1,5 @@
 -- A write of a client is a run of calls, each of them allowed.
-use Rattle.std.proofs.Common.{◌≡◌, ℕ, ◌<◌, ◌≢◌, false, [], ◌∷◌, refl, sym, ap, subst, ◌∙◌, arith, Contains}
+use Rattle.std.proofs.Common.{◌≡◌, ℕ, ◌<◌, ◌≢◌, [], ◌∷◌, refl, sym, ap, subst, ◌∙◌, arith, Contains}
 use Rattle.std.specs.Prelude.{Result, Ok, Err}
 use Rattle.std.proofs.lemmas.List.Elements.{Contains-push}
 use Rattle.repl_data.specs.declared.csn.Csn.{Csn}
@@ -13,7 +13,7 @@ use Rattle.node_core.specs.Sound.{IsSoundNode, IsOpen}
 use Rattle.node_core.proofs.Draws.{draw-above, reached_below, begun-drawn}
 use Rattle.node_core.proofs.NodeSteps.{drawn-above}
 use Rattle.node_core.proofs.Spares.{CommitLeaves, commit_leaves}
-use Rattle.world_core.specs.World.{World, Ticket, CallBegin, CallCommit, CallEnd, Calls, node_of, node_in, begin_at, committing, commit_at}
+use Rattle.world_core.specs.World.{World, Ticket, CallBegin, CallCommit, CallEnd, Calls, is_failing, keeper_in, node_of, node_in, begin_at, committing, commit_at}
 use Rattle.world_core.specs.Write.{csn_after, finished, written_from, write_in}
 use Rattle.world_core.specs.Laws.{IsNode, IsLawful, IsNoTicket, May, Leads, law_of_writes}
 use Rattle.world_core.proofs.Honest.{node_of-here, with-IsNode}
@@ -107,7 +107,7 @@ module _ (judge : Judge) (w : World) (r : ℕ) (request : Request) (bound : Iden
   may_end : May (commit_at begun r life csn verdict) (Calls r (CallEnd life (csn_after csn answer)))
   may_end = (
     with-IsNode begun.nodes r r (after_commit (node_in begun r) csn verdict answer) i',
-    left_alone verdict answer (commit_leaves (node_in begun r) life csn verdict w.clock false (lawful.sound.sound r i') (λ q. opened)),
+    left_alone verdict answer (commit_leaves (node_in begun r) life csn verdict w.clock (is_failing (keeper_in begun r)) (lawful.sound.sound r i') (λ q. opened)),
   )
 
   pub begun-leads : Leads judge w (finished begun r csn verdict answer).0

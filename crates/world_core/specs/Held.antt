@@ -6,7 +6,7 @@ use Rattle.node_core.specs.declared.fault.BeginFault.{BeginFault}
 use Rattle.node_core.specs.declared.fault.BeginFault.TheVariants as begin
 use Rattle.node_core.specs.declared.fault.CommitFault.{CommitFault}
 use Rattle.node_core.specs.declared.fault.CommitFault.TheVariants as commit
-use Rattle.node_core.specs.Steps.{NoTicket, Full, Exhausted, CommitAnswer, Stale, Refused, CommitExhausted}
+use Rattle.node_core.specs.Steps.{NoTicket, Full, Exhausted, CommitAnswer, Stale, Refused, CommitExhausted, KeeperFailed}
 use Rattle.world_core.specs.declared.held.Stage.{Stage}
 use Rattle.world_core.specs.declared.held.Stage.TheVariants.{Open, Committed}
 
@@ -30,10 +30,10 @@ no_ticket_of begin.Full = Some Full
 no_ticket_of (begin.Exhausted last) = Some (Exhausted last)
 no_ticket_of begin.NoMemory = None
 
--- the answer that a fault of a commit stands for; none where memory was wanting, or the keeper failed
-abbrev pub answer_of : CommitFault → Option CommitAnswer
-answer_of (commit.Stale life node_life) = Some (Stale node_life)
-answer_of (commit.Refused result) = Some (Refused result)
-answer_of (commit.Exhausted last) = Some (CommitExhausted (generator_at last))
-answer_of commit.NoMemory = None
-answer_of commit.KeeperFault = None
+-- the answer that a fault of a commit stands for, where the ticket comes back with this CSN; none where memory was wanting
+abbrev pub answer_of : Csn → CommitFault → Option CommitAnswer
+answer_of csn (commit.Stale life node_life) = Some (Stale node_life)
+answer_of csn (commit.Refused result) = Some (Refused result)
+answer_of csn (commit.Exhausted last) = Some (CommitExhausted (generator_at last))
+answer_of csn commit.NoMemory = None
+answer_of csn commit.KeeperFault = Some (KeeperFailed csn)

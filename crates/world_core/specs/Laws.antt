@@ -16,7 +16,7 @@ use Rattle.node_core.specs.Sound.{IsSoundNode, GoesOn, IsOpen}
 pub use Rattle.node_core.specs.Sound.{IsOwnEntry, IsSoundJudge}
 use Rattle.node_core.specs.Calls.{IsWrite}
 use Rattle.world_core.specs.declared.event.Event.{Event}
-use Rattle.world_core.specs.declared.event.Event.TheVariants.{Clock, Start, Commit, Settle, Abort, Acquire, Release, Offer, Deliver, Vector, Dump, Audit}
+use Rattle.world_core.specs.declared.event.Event.TheVariants.{Clock, Start, Commit, Settle, Abort, Acquire, Release, Offer, Deliver, Fail, Vector, Dump, Audit}
 use Rattle.world_core.specs.Write.{write_in}
 use Rattle.world_core.specs.World.{World, Ticket, node_of, node_in, new_world, updates_of, ticket_in, session_in, is_node, Call, CallBegin, CallCommit, CallEnd, CallAcquire, CallRelease, CallApply, Deed, Happens, Calls, after, after_all}
 
@@ -110,6 +110,7 @@ MayHappen w (Acquire a b) = Unit {0}
 MayHappen w (Release a b) = Unit {0}
 MayHappen w (Offer a b) = is_node w a ≡ true → is_node w b ≡ true → IsSome (session_in w a b)
 MayHappen w (Deliver b u) = Unit {0}
+MayHappen w (Fail n j) = Unit {0}
 MayHappen w (Vector n) = Unit {0}
 MayHappen w (Dump n) = Unit {0}
 MayHappen w (Audit n) = Unit {0}

@@ -3,6 +3,7 @@ pub mod Write
 pub mod Laws
 pub mod Taken
 pub mod Held
+pub mod Nodes
 pub mod State
 pub mod Commits
 pub mod Sessions

@@ -1,5 +1,7 @@
 -- A world of nodes, and what each event does to it.
-use Rattle.std.specs.Prelude.{ℕ, zero, suc, ◌+◌, Bool, true, false, not, ◌&&◌, nat_lt, nat_le, ◌==◌, if◌then◌else◌, List, [], ◌∷◌, ◌++◌, map, filter, find, length, Option, Some, None, Result, Ok, Err, slice_get, slice_index_or, slice_set}
+use Rattle.std.specs.Prelude.{ℕ, zero, suc, ◌+◌, ◌-◌, ◌^◌, min, Bool, true, false, not, ◌&&◌, nat_lt, nat_le, ◌==◌, if◌then◌else◌, List, [], ◌∷◌, ◌++◌, map, filter, find, length, Option, Some, None, Result, Ok, Err, slice_get, slice_index_or, slice_set}
+use Rattle.std.specs.List.{list_any}
+use Rattle.io_edge.specs.Causes.{next_count}
 use Rattle.repl_data.specs.declared.csn.Csn.{Csn}
 use Rattle.repl_data.specs.declared.change.Suffix.{Suffix}
 use Rattle.repl_data.specs.declared.change.Update.{Update}
@@ -9,7 +11,9 @@ use Rattle.ldap_types.specs.declared.reply.Identity.{Identity}
 use Rattle.ldap_types.specs.declared.reply.LdapResult.{LdapResult}
 use Rattle.ldap_rules.specs.Verdict.{Verdict}
 use Rattle.vector_core.specs.declared.answers.Applied.{Applied}
+use Rattle.vector_core.specs.declared.answers.Applied.TheVariants.{Taken}
 use Rattle.vector_core.specs.declared.answers.ApplyFault.{ApplyFault}
+use Rattle.vector_core.specs.declared.answers.ApplyFault.TheVariants as apply
 use Rattle.vector_core.specs.declared.answers.AcquireFault.{AcquireFault}
 use Rattle.node_core.specs.Node.{Node, new_node, raised, vector_of, audit_at}
 use Rattle.node_core.specs.Steps.{NoTicket, Full, Exhausted, Judge, verdict_at, csn_at, begin_answer, after_begin, CommitAnswer, Stale, Refused, CommitExhausted, KeeperFailed, Committed, commit_answer, after_commit, ended, offer, apply_answer, after_apply, acquire_fault, after_acquire, released}
@@ -17,7 +21,7 @@ pub use Rattle.node_core.specs.Answers.{used_up}
 pub use Rattle.world_core.specs.declared.parts.Session.{Session}
 pub use Rattle.world_core.specs.declared.parts.Offered.{Offered}
 use Rattle.world_core.specs.declared.event.Event.{Event}
-use Rattle.world_core.specs.declared.event.Event.TheVariants.{Clock, Start, Commit, Settle, Abort, Acquire, Release, Offer, Deliver, Vector, Dump, Audit}
+use Rattle.world_core.specs.declared.event.Event.TheVariants.{Clock, Start, Commit, Settle, Abort, Acquire, Release, Offer, Deliver, Fail, Vector, Dump, Audit}
 use Rattle.world_core.specs.declared.event.Happened.{Happened}
 use Rattle.world_core.specs.declared.event.Happened.TheVariants as what
 
@@ -34,9 +38,18 @@ pub record Ticket : Type 0 where
   -- what its last commit was answered, if that failed
   pub trouble : Option LdapResult
 
+-- The keeper of a node: how many batches came, the numbers of those that are to fail, counted from 1, and how many failed. A
+-- count stands still at its last number.
+pub record Keeper : Type 0 where
+  pub batches : ℕ
+  pub failing : List ℕ
+  pub faults : ℕ
+
 pub record World : Type 0 where
   -- node r is the r-th
   pub nodes : List Node
+  -- and so is its keeper
+  pub keepers : List Keeper
   -- in seconds since 1970
   pub clock : ℕ
   -- in rising order of number
@@ -49,9 +62,17 @@ abbrev pub nodes_from : Suffix → ℕ → ℕ → List Node
 nodes_from suffix first zero = []
 nodes_from suffix first (suc n) = new_node suffix first ∷ nodes_from suffix (first + 1) n
 
+-- a keeper to which no batch came
+abbrev pub new_keeper : Keeper
+new_keeper = record { batches = 0; failing = []; faults = 0 }
+
+abbrev pub new_keepers : ℕ → List Keeper
+new_keepers zero = []
+new_keepers (suc n) = new_keeper ∷ new_keepers n
+
 -- a world of nodes 1 to n
 abbrev pub new_world : Suffix → ℕ → World
-new_world suffix n = record { nodes = nodes_from suffix 1 n; clock = 0; tickets = []; sessions = []; offered = [] }
+new_world suffix n = record { nodes = nodes_from suffix 1 n; keepers = new_keepers n; clock = 0; tickets = []; sessions = []; offered = [] }
 
 -- ---- looking up
 
@@ -70,6 +91,18 @@ with_node nodes (suc i) n = slice_set nodes i n
 
 abbrev pub node_in : World → ℕ → Node
 node_in w r = node_of w.nodes r
+
+-- the keeper of node r
+abbrev pub keeper_of : List Keeper → ℕ → Keeper
+keeper_of keepers zero = new_keeper
+keeper_of keepers (suc i) = slice_index_or keepers i new_keeper
+
+abbrev pub with_keeper : List Keeper → ℕ → Keeper → List Keeper
+with_keeper keepers zero k = keepers
+with_keeper keepers (suc i) k = slice_set keepers i k
+
+abbrev pub keeper_in : World → ℕ → Keeper
+keeper_in w r = keeper_of w.keepers r
 
 abbrev pub is_node : World → ℕ → Bool
 is_node w r = nat_lt 0 r && nat_le r (length w.nodes)
@@ -106,20 +139,52 @@ abbrev pub update_in : World → ℕ → Option Offered
 update_in w zero = None
 update_in w (suc i) = slice_get w.offered i
 
+-- ---- the keepers
+
+-- the next batch is one of those that are to fail
+abbrev pub is_failing : Keeper → Bool
+is_failing k = list_any (λ i. i == next_count k.batches) k.failing
+
+-- one batch more came
+abbrev pub batch_came : Keeper → Keeper
+batch_came k = record k { batches = next_count k.batches; faults = if is_failing k then next_count k.faults else k.faults }
+
+-- the j-th batch from now on is to fail: 1 is the next
+abbrev pub failing_from : Keeper → ℕ → Keeper
+failing_from k j = record k { failing = k.failing ++ min (k.batches + j) (2 ^ 64 - 1) ∷ [] }
+
+-- the keeper after a commit with this answer, and after an apply: one batch came where the change was to be kept
+abbrev pub after_commit_batch : Keeper → CommitAnswer → Keeper
+after_commit_batch k (KeeperFailed csn) = batch_came k
+after_commit_batch k (Committed csn) = batch_came k
+after_commit_batch k (Stale life) = k
+after_commit_batch k (Refused result) = k
+after_commit_batch k (CommitExhausted last) = k
+
+abbrev pub after_apply_batch : Keeper → Result Applied ApplyFault → Keeper
+after_apply_batch k (Ok Taken) = batch_came k
+after_apply_batch k (Err apply.KeeperFault) = batch_came k
+after_apply_batch k _ = k
+
 -- ---- the steps of one node of the world
 
 -- node r becomes n
 abbrev pub put : World → ℕ → Node → World
 put w r n = record w { nodes = with_node w.nodes r n }
 
+-- and its keeper becomes k
+abbrev pub put_both : World → ℕ → Node → Keeper → World
+put_both w r n k = record w { nodes = with_node w.nodes r n; keepers = with_keeper w.keepers r k }
+
 abbrev pub begin_at : World → ℕ → World
 begin_at w r = put w r (after_begin (node_in w r) (begin_answer (node_in w r) w.clock))
 
 abbrev pub committing : World → ℕ → ℕ → Csn → Verdict → CommitAnswer
-committing w r life csn verdict = commit_answer (node_in w r) life csn verdict w.clock false
+committing w r life csn verdict = commit_answer (node_in w r) life csn verdict w.clock (is_failing (keeper_in w r))
 
 abbrev pub commit_at : World → ℕ → ℕ → Csn → Verdict → World
-commit_at w r life csn verdict = put w r (after_commit (node_in w r) csn verdict (committing w r life csn verdict))
+commit_at w r life csn verdict =
+    put_both w r (after_commit (node_in w r) csn verdict (committing w r life csn verdict)) (after_commit_batch (keeper_in w r) (committing w r life csn verdict))
 
 -- settle and abort
 abbrev pub end_at : World → ℕ → ℕ → Csn → World
@@ -132,10 +197,10 @@ abbrev pub release_at : World → ℕ → ℕ → World
 release_at w r from = put w r (released (node_in w r) from)
 
 abbrev pub applying : World → ℕ → ℕ → Update → Result Applied ApplyFault
-applying w r from u = apply_answer (node_in w r) from u w.clock false
+applying w r from u = apply_answer (node_in w r) from u w.clock (is_failing (keeper_in w r))
 
 abbrev pub apply_at : World → ℕ → ℕ → Update → World
-apply_at w r from u = put w r (after_apply (node_in w r) u.change (applying w r from u))
+apply_at w r from u = put_both w r (after_apply (node_in w r) u.change (applying w r from u)) (after_apply_batch (keeper_in w r) (applying w r from u))
 
 -- ---- events
 
@@ -238,6 +303,12 @@ abbrev pub deliver : World → ℕ → Option Offered → Outcome
 deliver w b None = nothing_such w
 deliver w b (Some o) = record { world = apply_at w b o.supplier o.update; happened = what.Delivered (applying w b o.supplier o.update) }
 
+-- the j-th batch from now on of node n's keeper is to fail
+abbrev pub failing : World → ℕ → ℕ → Outcome
+failing w n j =
+    if is_node w n then record { world = record w { keepers = with_keeper w.keepers n (failing_from (keeper_in w n) j) }; happened = what.Silent }
+    else nothing_such w
+
 -- what is told of a node, which does not change
 abbrev pub told : World → ℕ → Happened → Outcome
 told w n happened = if is_node w n then record { world = w; happened = happened } else nothing_such w
@@ -253,6 +324,7 @@ step judge w (Acquire a b) = if is_node w a && is_node w b then acquired w a b (
 step judge w (Release a b) = if is_node w a && is_node w b then record { world = release w a b; happened = what.Released } else nothing_such w
 step judge w (Offer a b) = if is_node w a && is_node w b then offer_in w a (session_in w a b) else nothing_such w
 step judge w (Deliver b u) = if is_node w b then deliver w b (update_in w u) else nothing_such w
+step judge w (Fail n j) = failing w n j
 step judge w (Vector n) = told w n (what.Front (vector_of (node_in w n)))
 step judge w (Dump n) = told w n (what.Dumped (dump_of (view_of (node_in w n).suffix (node_in w n).taken)))
 step judge w (Audit n) = told w n (what.Audited (audit_at (node_in w n)))

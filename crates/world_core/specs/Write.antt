@@ -1,5 +1,5 @@
 -- A write that a client asks for on a connection: a begin, a commit, and then a settle or an abort.
-use Rattle.std.specs.Prelude.{ℕ, [], Option, Some, None, Result, Ok, Err}
+use Rattle.std.specs.Prelude.{ℕ, Bool, [], if◌then◌else◌, Option, Some, None, Result, Ok, Err}
 use Rattle.repl_data.specs.declared.csn.Csn.{Csn}
 use Rattle.repl_data.specs.Closed.{needed}
 use Rattle.ldap_types.specs.declared.request.Request.{Request}
@@ -9,7 +9,7 @@ use Rattle.ldap_rules.specs.Verdict.{Verdict, Refuses, Writes, Answers}
 use Rattle.ldap_rules.specs.Laws.{target_at}
 use Rattle.node_core.specs.Node.{Node}
 use Rattle.node_core.specs.Steps.{NoTicket, Full, Exhausted, Judge, verdict_at, begin_answer, csn_for, CommitAnswer, Stale, Refused, CommitExhausted, KeeperFailed, Committed}
-use Rattle.world_core.specs.World.{World, node_in, begin_at, committing, commit_at, end_at, used_up}
+use Rattle.world_core.specs.World.{World, node_in, keeper_in, is_failing, keeper_failed, begin_at, committing, commit_at, end_at, used_up}
 
 -- 0 success, and 51 busy where as many CSNs are pending as can be
 abbrev pub success : LdapResult
@@ -18,16 +18,17 @@ success = record { code = record { number = 0 }; matched = []; text = [] }
 abbrev pub busy : LdapResult
 busy = record { code = record { number = 51 }; matched = []; text = [] }
 
--- what a client is answered where its change has this CSN: the one that was drawn for it, or another, or none where none is left
-abbrev pub kept_result : Option Csn → LdapResult
-kept_result None = used_up
-kept_result (Some csn) = success
+-- what a client is answered where its change has this CSN: the one that was drawn for it, or another, or none where none is left;
+-- 52 unavailable where the keeper fails
+abbrev pub kept_result : Option Csn → Bool → LdapResult
+kept_result None fails = used_up
+kept_result (Some csn) fails = if fails then keeper_failed else success
 
 -- what a client is answered to a write under this verdict, for which this CSN was drawn
-abbrev pub result_of : Node → Csn → Verdict → ℕ → LdapResult
-result_of n csn (Refuses result) now = result
-result_of n csn (Answers result) now = result
-result_of n csn (Writes target body) now = kept_result (csn_for n csn (needed (target_at csn target) body) now)
+abbrev pub result_of : Node → Csn → Verdict → ℕ → Bool → LdapResult
+result_of n csn (Refuses result) now fails = result
+result_of n csn (Answers result) now fails = result
+result_of n csn (Writes target body) now fails = kept_result (csn_for n csn (needed (target_at csn target) body) now) fails
 
 -- the CSN that is pending after a commit
 abbrev pub csn_after : Csn → CommitAnswer → Csn
@@ -39,8 +40,10 @@ csn_after csn (Stale life) = csn
 
 -- commit, and then settle or abort, which are one step of the node
 abbrev pub finished : World → ℕ → Csn → Verdict → CommitAnswer → World × LdapResult
-finished w r csn verdict answer =
-    (end_at (commit_at w r (node_in w r).life csn verdict) r (node_in w r).life (csn_after csn answer), result_of (node_in w r) csn verdict w.clock)
+finished w r csn verdict answer = (
+  end_at (commit_at w r (node_in w r).life csn verdict) r (node_in w r).life (csn_after csn answer),
+  result_of (node_in w r) csn verdict w.clock (is_failing (keeper_in w r)),
+)
 
 abbrev pub written_from : Judge → World → ℕ → Request → Identity → Result Csn NoTicket → World × LdapResult
 written_from judge w r request bound (Ok csn) =

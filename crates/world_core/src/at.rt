@@ -40,12 +40,13 @@ impl Model for AtNode {
     ghost coded = { Prim.hlevel (codes, filter.the_row.coded) };
 
     ghost use Rattle.world_core.specs.Laws.{IsNode};
+    ghost use Rattle.world_core.specs.Nodes.{nodes_in};
     ghost use Rattle.world_core.specs.State.{world_of};
     ghost use Rattle.world_core.specs.Taken.{IsKept};
 
     ghost view = { λ a. record { world = world_of a.state; n = a.n } };
 
-    ghost invariant = { λ a. IsKept (world_of a.state) × IsNode a.state.nodes.items a.n };
+    ghost invariant = { λ a. IsKept (world_of a.state) × IsNode (nodes_in a.state.nodes.items) a.n };
 }
 
 impl Drop for AtNode {
@@ -98,7 +99,7 @@ impl AtNode {
 impl NodeCalls for AtNode {
     ghost use Rattle.world_core.specs.At.{at_reach, IsOpenAt, IsCommittedAt};
 
-    // A call meets the node that the last one left, and changes nothing beside it. The keeper of a world's node never fails.
+    // A call meets the node that the last one left, and changes nothing beside it and its keeper.
     ghost reach = { at_reach };
 
     ghost is_open = { IsOpenAt };

@@ -1,26 +1,28 @@
 //! A commit of a ticket.
 
 ghost use Rattle.std.specs.Prelude.{◌≡◌, ◌≢◌, ◌==◌, false, IfOk, IfSome, OnErr, IsSome, IsErr, Some, Ok, position};
+ghost use Rattle.repl_data.specs.declared.csn.Csn.{Csn};
 ghost use Rattle.node_core.specs.Node.{Node};
 ghost use Rattle.node_core.specs.Sound.{IsOpen};
 ghost use Rattle.node_core.specs.Steps.{judge_view};
-ghost use Rattle.world_core.specs.World.{Ticket as WorldTicket, node_of, ticket_in, ticket_after, commit_happened, commit_ticket};
+ghost use Rattle.world_core.specs.World.{Ticket as WorldTicket, node_of, ticket_in, ticket_after, commit_happened, commit_ticket, keeper_failed};
 ghost use Rattle.node_core.specs.Calls.{IsWrite};
 ghost use Rattle.world_core.specs.Laws.{IsNode};
 ghost use Rattle.world_core.specs.Held.{answer_of};
 ghost use Rattle.world_core.specs.Commits.{CommitsHeld};
+ghost use Rattle.world_core.specs.Nodes.{nodes_in, told_in};
 ghost use Rattle.world_core.specs.State.{world_of};
 ghost use Rattle.world_core.specs.Taken.{IsKept};
 
 use crate::event::Happened;
 use crate::held::{Held, Stage};
-use crate::nodes::{commit_at, node_at};
+use crate::nodes::{MapNode, commit_at, node_at};
 use crate::places::place_of;
 use crate::start::csn_at;
 use crate::state::WorldState;
-use ldap_types::LdapResult;
-use node_core::{CommitFault, NodeState, used_up};
-use repl_data::NoMemory;
+use ldap_types::{Code, LdapResult};
+use node_core::{CommitFault, used_up};
+use repl_data::{Bytes, NoMemory};
 use std::alloc::Global;
 
 /// What a commit that failed has come to, and what its ticket keeps of it.
@@ -30,12 +32,23 @@ struct Failure {
     trouble: Option<LdapResult>,
 }
 
+/// 52 unavailable, where the keeper failed.
+fn unavailable(alloc: Global) -> LdapResult
+    ensures { result ≡ keeper_failed }
+{
+    LdapResult {
+        code: Code::UNAVAILABLE,
+        matched: Bytes::new(alloc),
+        text: Bytes::new(alloc),
+    }
+}
+
 /// A failure of a ticket of this life, at a node of this replica id.
 fn failed(alloc: Global, life: u64, rid: u16, fault: CommitFault) -> Result<Failure, NoMemory>
-    requires { fault ≢ CommitFault.KeeperFault }
-    ensures ok { IfOk result (λ failure. IsSome (answer_of fault)) }
-    ensures trouble { (t : WorldTicket) → IfOk result (λ failure. IfSome (answer_of fault) (λ a. failure.trouble ≡ (ticket_after t a).trouble)) }
-    ensures happened { (t : WorldTicket) (n : Node) → t.life ≡ life → n.rid ≡ rid → IfOk result (λ failure. IfSome (answer_of fault) (λ a. failure.happened ≡ commit_happened t a n)) }
+    ensures ok { (csn : Csn) → IfOk result (λ failure. IsSome (answer_of csn fault)) }
+    ensures kept { OnErr result (fault ≢ CommitFault.KeeperFault) }
+    ensures trouble { (t : WorldTicket) (csn : Csn) → IfOk result (λ failure. IfSome (answer_of csn fault) (λ a. failure.trouble ≡ (ticket_after t a).trouble)) }
+    ensures happened { (t : WorldTicket) (csn : Csn) (n : Node) → t.life ≡ life → n.rid ≡ rid → IfOk result (λ failure. IfSome (answer_of csn fault) (λ a. failure.happened ≡ commit_happened t a n)) }
 {
     match fault {
         CommitFault::NoMemory => Err(NoMemory),
@@ -55,24 +68,27 @@ fn failed(alloc: Global, life: u64, rid: u16, fault: CommitFault) -> Result<Fail
             },
             trouble: Some(used_up(alloc)?),
         }),
-        CommitFault::KeeperFault => unreachable!(),
+        CommitFault::KeeperFault => Ok(Failure {
+            happened: Happened::Keeper,
+            trouble: Some(unavailable(alloc)),
+        }),
     }
 }
 
 /// Commits a ticket that is not committed. It is handed back as the commit leaves it, and where
 /// memory was wanting as it was.
 fn commit_held(
-    nodes: &mut Vec<NodeState>,
+    nodes: &mut Vec<MapNode>,
     alloc: Global,
     held: Held,
     clock: u32,
 ) -> (Held, Result<Happened, NoMemory>)
-    requires node { IsNode nodes.old.items held.node }
+    requires node { IsNode (nodes_in nodes.old.items) held.node }
     requires uncommitted { held.committed ≡ false }
-    requires open { held.life ≡ (node_of nodes.old.items held.node).life → IsOpen (node_of nodes.old.items held.node) held.csn }
+    requires open { held.life ≡ (node_of (nodes_in nodes.old.items) held.node).life → IsOpen (node_of (nodes_in nodes.old.items) held.node) held.csn }
     requires write { IsWrite held.request held.bound }
-    ensures ok { IfOk result.1 (λ happened. CommitsHeld nodes.old.items clock held result.0 happened nodes.new.items) }
-    ensures err { OnErr result.1 ((result.0 ≡ held) × (nodes.new.items ≡ nodes.old.items)) }
+    ensures ok { IfOk result.1 (λ happened. CommitsHeld (told_in nodes.old.items) clock held result.0 happened (told_in nodes.new.items)) }
+    ensures err { OnErr result.1 ((result.0 ≡ held) × (told_in nodes.new.items ≡ told_in nodes.old.items)) }
 {
     let Held {
         number,

@@ -7,26 +7,43 @@ ghost use Rattle.node_core.specs.Sound.{IsOpen};
 ghost use Rattle.node_core.specs.Steps.{ended};
 ghost use Rattle.world_core.specs.declared.event.Happened.{Happened};
 ghost use Rattle.world_core.specs.World.{Ticket as WorldTicket, node_of, with_node, ticket_in, end_ticket};
+ghost use Rattle.world_core.specs.Nodes.{keepers_in, nodes_in};
+ghost use Rattle.world_core.specs.Held.{is_committed, stage_csn, stage_life};
 ghost use Rattle.world_core.specs.Laws.{IsNode};
 ghost use Rattle.world_core.specs.State.{world_of};
 ghost use Rattle.world_core.specs.Taken.{IsKept};
 
 use crate::event::Happened;
 use crate::held::{Held, Stage, lose};
-use crate::nodes::{abort_at, settle_at};
+use crate::nodes::{MapNode, abort_at, settle_at};
 use crate::places::place_of;
 use crate::state::WorldState;
 use ldap_types::LdapResult;
-use node_core::NodeState;
+
+/// Settles or gives up what is held for a ticket of node `n`.
+fn end_stage(nodes: &mut Vec<MapNode>, n: u16, stage: Stage)
+    requires node { IsNode (nodes_in nodes.old.items) n }
+    requires pending { stage_life stage ≡ (node_of (nodes_in nodes.old.items) n).life → Contains (node_of (nodes_in nodes.old.items) n).pending (stage_csn stage) }
+    requires open { stage_life stage ≡ (node_of (nodes_in nodes.old.items) n).life → is_committed stage ≡ false → IsOpen (node_of (nodes_in nodes.old.items) n) (stage_csn stage) }
+    requires taken { is_committed stage ≡ true → Contains (csns_of (node_of (nodes_in nodes.old.items) n).taken) (stage_csn stage) }
+    ensures nodes { nodes_in nodes.new.items ≡ with_node (nodes_in nodes.old.items) n (ended (node_of (nodes_in nodes.old.items) n) (stage_life stage) (stage_csn stage)) }
+    ensures keepers { keepers_in nodes.new.items ≡ keepers_in nodes.old.items }
+{
+    match stage {
+        Stage::Open(ticket) => abort_at(nodes, n, ticket),
+        Stage::Committed(receipt) => settle_at(nodes, n, receipt),
+    }
+}
 
 /// Settles or gives up a ticket, and tells the result of its last commit, if that failed.
-fn end_held(nodes: &mut Vec<NodeState>, held: Held) -> Option<LdapResult>
-    requires node { IsNode nodes.old.items held.node }
-    requires pending { held.life ≡ (node_of nodes.old.items held.node).life → Contains (node_of nodes.old.items held.node).pending held.csn }
-    requires open { held.life ≡ (node_of nodes.old.items held.node).life → held.committed ≡ false → IsOpen (node_of nodes.old.items held.node) held.csn }
-    requires taken { held.committed ≡ true → Contains (csns_of (node_of nodes.old.items held.node).taken) held.csn }
+fn end_held(nodes: &mut Vec<MapNode>, held: Held) -> Option<LdapResult>
+    requires node { IsNode (nodes_in nodes.old.items) held.node }
+    requires pending { held.life ≡ (node_of (nodes_in nodes.old.items) held.node).life → Contains (node_of (nodes_in nodes.old.items) held.node).pending held.csn }
+    requires open { held.life ≡ (node_of (nodes_in nodes.old.items) held.node).life → held.committed ≡ false → IsOpen (node_of (nodes_in nodes.old.items) held.node) held.csn }
+    requires taken { held.committed ≡ true → Contains (csns_of (node_of (nodes_in nodes.old.items) held.node).taken) held.csn }
     ensures trouble { result ≡ held.trouble }
-    ensures nodes { nodes.new.items ≡ with_node nodes.old.items held.node (ended (node_of nodes.old.items held.node) held.life held.csn) }
+    ensures nodes { nodes_in nodes.new.items ≡ with_node (nodes_in nodes.old.items) held.node (ended (node_of (nodes_in nodes.old.items) held.node) held.life held.csn) }
+    ensures keepers { keepers_in nodes.new.items ≡ keepers_in nodes.old.items }
 {
     let Held {
         number: _,
@@ -37,10 +54,7 @@ fn end_held(nodes: &mut Vec<NodeState>, held: Held) -> Option<LdapResult>
         trouble,
     } = held;
     lose(request);
-    match stage {
-        Stage::Open(ticket) => abort_at(nodes, node, ticket),
-        Stage::Committed(receipt) => settle_at(nodes, node, receipt),
-    }
+    end_stage(nodes, node, stage);
     trouble
 }
 

@@ -53,6 +53,11 @@ pub enum Event {
         b: u16,
         u: u64,
     },
+    /// The `j`-th batch from now on of node `n`'s keeper is to fail: 1 is the next.
+    Fail {
+        n: u16,
+        j: u32,
+    },
     /// The vector of node `n` is asked for.
     Vector {
         n: u16,

@@ -5,6 +5,7 @@ mod at;
 mod commit;
 mod end;
 mod event;
+mod failing;
 mod held;
 mod laws;
 mod nodes;

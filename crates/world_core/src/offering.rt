@@ -6,16 +6,17 @@ ghost use Rattle.node_core.specs.Node.{vector_of};
 ghost use Rattle.node_core.specs.Steps.{judge_view};
 ghost use Rattle.world_core.specs.declared.event.Event.{Event};
 ghost use Rattle.world_core.specs.World.{Session, node_of, node_in, is_node, session_in, without_session, with_session, acquired, acquire_of, offer_in, update_in, deliver, step};
+ghost use Rattle.world_core.specs.Nodes.{nodes_in};
 ghost use Rattle.world_core.specs.Laws.{IsNode};
 ghost use Rattle.world_core.specs.State.{world_of};
 ghost use Rattle.world_core.specs.Taken.{IsKept};
 
 use crate::event::Happened;
-use crate::nodes::{acquire_at, apply_at, node_at, release_at};
+use crate::nodes::{MapNode, acquire_at, apply_at, node_at, release_at};
 use crate::parts::{Offered, Session};
 use crate::places::session_place;
 use crate::state::WorldState;
-use node_core::{Applied, ApplyFault, NodeState, Offer, Start};
+use node_core::{Applied, ApplyFault, Offer, Start};
 use repl_data::{Csn, NoMemory, Update};
 use std::alloc::Global;
 use vector_core::Vector;
@@ -44,9 +45,9 @@ fn put_session(sessions: &mut Vec<Session>, a: u16, b: u16, cursor: Vector)
 }
 
 /// How node `a` begins as a supplier.
-fn start_of(alloc: Global, nodes: &[NodeState], a: u16) -> Result<Start, NoMemory>
-    requires { IsNode nodes.now a }
-    ensures { IfOk result (λ start. start ≡ record { suffix = (node_of nodes.now a).suffix.name; rid = a; front = vector_of (node_of nodes.now a) }) }
+fn start_of(alloc: Global, nodes: &[MapNode], a: u16) -> Result<Start, NoMemory>
+    requires { IsNode (nodes_in nodes.now) a }
+    ensures { IfOk result (λ start. start ≡ record { suffix = (node_of (nodes_in nodes.now) a).suffix.name; rid = a; front = vector_of (node_of (nodes_in nodes.now) a) }) }
 {
     let node = node_at(nodes, a);
     Ok(Start {
@@ -71,7 +72,7 @@ fn raised(alloc: Global, vector: &Vector, csn: Csn) -> Result<Vector, NoMemory>
 impl WorldState {
     /// Node `a` acquires node `b`. Both are there, and there is a place for one more session.
     fn acquire_node(&mut self, a: u16, b: u16, start: &Start, cursor: Vector) -> Happened
-        requires consumer { IsNode self.old.nodes.items b }
+        requires consumer { IsNode (nodes_in self.old.nodes.items) b }
         requires room { vec_len self.old.sessions < vec_capacity self.old.sessions }
         requires start { start.now ≡ record { suffix = (node_in (world_of self.old) a).suffix.name; rid = a; front = vector_of (node_in (world_of self.old) a) } }
         requires cursor { cursor ≡ vector_of (node_in (world_of self.old) b) }
@@ -117,8 +118,8 @@ impl WorldState {
     /// There are both nodes.
     fn has_both(&self, a: u16, b: u16) -> bool
         ensures value { result ≡ (is_node (world_of self.now) a && is_node (world_of self.now) b) }
-        ensures supplier { result ≡ true → IsNode self.now.nodes.items a }
-        ensures consumer { result ≡ true → IsNode self.now.nodes.items b }
+        ensures supplier { result ≡ true → IsNode (nodes_in self.now.nodes.items) a }
+        ensures consumer { result ≡ true → IsNode (nodes_in self.now.nodes.items) b }
     {
         self.has_node(a) && self.has_node(b)
     }
@@ -155,7 +156,7 @@ impl WorldState {
         at: usize,
     ) -> Result<Happened, NoMemory>
         requires kept { IsKept (world_of self.old) }
-        requires node { IsNode self.old.nodes.items a }
+        requires node { IsNode (nodes_in self.old.nodes.items) a }
         requires at { at < length self.old.sessions.items }
         requires found { (d : Session) → session_in (world_of self.old) a b ≡ Some (slice_index_or self.old.sessions.items at d) }
         ensures ok { IfOk result (λ happened. offer_in (world_of self.old) a (session_in (world_of self.old) a b) ≡ record { world = world_of self.new; happened = happened }) }
@@ -211,7 +212,7 @@ impl WorldState {
         _u: u64,
         at: usize,
     ) -> Result<Happened, NoMemory>
-        requires node { IsNode self.old.nodes.items b }
+        requires node { IsNode (nodes_in self.old.nodes.items) b }
         requires at { at < length self.old.offered.items }
         requires found { (d : Offered) → update_in (world_of self.old) _u ≡ Some (slice_index_or self.old.offered.items at d) }
         ensures ok { IfOk result (λ happened. deliver (world_of self.old) b (update_in (world_of self.old) _u) ≡ record { world = world_of self.new; happened = happened }) }

@@ -7,6 +7,7 @@ ghost use Rattle.node_core.specs.Steps.{NoTicket, judge_view, csn_at, begin_answ
 ghost use Rattle.world_core.specs.World.{World, Ticket as WorldTicket, node_in, ticket_in, with_ticket, started, step};
 ghost use Rattle.world_core.specs.declared.event.Event.{Event};
 ghost use Rattle.world_core.specs.Held.{no_ticket_of};
+ghost use Rattle.world_core.specs.Nodes.{nodes_in};
 ghost use Rattle.world_core.specs.Laws.{IsNode};
 ghost use Rattle.world_core.specs.State.{world_of};
 
@@ -84,7 +85,7 @@ impl WorldState {
         request: Request,
         bound: Identity,
     ) -> Result<Happened, NoMemory>
-        requires node { IsNode self.old.nodes.items n }
+        requires node { IsNode (nodes_in self.old.nodes.items) n }
         requires new { ticket_in (world_of self.old) k ≡ None }
         requires room { vec_len self.old.tickets < vec_capacity self.old.tickets }
         ensures ok { IfOk result (λ happened. started (world_of self.old) k n request bound (begin_answer (node_in (world_of self.old) n) self.old.clock) ≡ record { world = world_of self.new; happened = happened }) }

@@ -2,20 +2,20 @@
 
 ghost use Rattle.std.specs.Prelude.{◌≡◌, ◌↔◌, IsTrue, is_some, option_map};
 ghost use Rattle.world_core.specs.World.{Ticket, is_node, ticket_in, session_in, update_in};
+ghost use Rattle.world_core.specs.Nodes.{nodes_in};
 ghost use Rattle.world_core.specs.Laws.{IsNode};
 ghost use Rattle.world_core.specs.State.{world_of};
 
 use crate::held::Held;
-use crate::nodes::has_node;
+use crate::nodes::{MapNode, has_node};
 use crate::parts::{Offered, Session};
 use crate::places::{place_of, session_place};
-use node_core::NodeState;
 
 /// The nodes, and what passes between them.
 #[derive(Debug)]
 pub(crate) struct WorldState {
     /// Node `n` stands at place `n` - 1.
-    pub nodes: Vec<NodeState>,
+    pub nodes: Vec<MapNode>,
     /// In seconds since 1970.
     pub clock: u32,
     /// In rising order of number.
@@ -35,7 +35,7 @@ impl WorldState {
     /// There is a node `n`.
     pub fn has_node(&self, n: u16) -> bool
         ensures value { result ≡ is_node (world_of self.now) n }
-        ensures node { IsTrue result ↔ IsNode self.now.nodes.items n }
+        ensures node { IsTrue result ↔ IsNode (nodes_in self.now.nodes.items) n }
     {
         has_node(self.nodes.as_slice(), n)
     }

@@ -38,6 +38,7 @@ impl WorldState {
             Event::Release { a, b } => Ok(self.release(a, b)),
             Event::Offer { a, b } => self.offer(alloc, a, b),
             Event::Deliver { b, u } => self.deliver(alloc, b, u),
+            Event::Fail { n, j } => self.fail(n, j),
             Event::Vector { n } => self.vector(alloc, n),
             Event::Dump { n } => self.dump(alloc, n),
             Event::Audit { n } => Ok(self.audit(n)),

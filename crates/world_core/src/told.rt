@@ -6,6 +6,7 @@ ghost use Rattle.node_core.specs.Node.{vector_of, audit_at};
 ghost use Rattle.node_core.specs.Steps.{judge_view};
 ghost use Rattle.world_core.specs.declared.event.Event.{Event};
 ghost use Rattle.world_core.specs.World.{node_in, step};
+ghost use Rattle.world_core.specs.Nodes.{nodes_in};
 ghost use Rattle.world_core.specs.Laws.{IsNode};
 ghost use Rattle.world_core.specs.State.{world_of};
 
@@ -19,7 +20,7 @@ use std::alloc::Global;
 impl WorldState {
     /// The vector of node `n`, which there is.
     fn vector_at(&self, alloc: Global, n: u16) -> Result<CsnList, NoMemory>
-        requires { IsNode self.now.nodes.items n }
+        requires { IsNode (nodes_in self.now.nodes.items) n }
         ensures { IfOk result (λ csns. csns ≡ vector_of (node_in (world_of self.now) n)) }
     {
         let vector = node_at(self.nodes.as_slice(), n).vector(alloc)?;
@@ -28,7 +29,7 @@ impl WorldState {
 
     /// The entries of node `n`, which there is.
     fn dump_at(&self, alloc: Global, n: u16) -> Result<ShownEntryList, NoMemory>
-        requires { IsNode self.now.nodes.items n }
+        requires { IsNode (nodes_in self.now.nodes.items) n }
         ensures { IfOk result (λ entries. entries ≡ dump_of (view_of (node_in (world_of self.now) n).suffix (node_in (world_of self.now) n).taken)) }
     {
         node_at(self.nodes.as_slice(), n).dump(alloc)
@@ -36,7 +37,7 @@ impl WorldState {
 
     /// The counts of node `n`, which there is.
     fn audit_at(&self, n: u16) -> Audit
-        requires { IsNode self.now.nodes.items n }
+        requires { IsNode (nodes_in self.now.nodes.items) n }
         ensures { result ≡ audit_at (node_in (world_of self.now) n) }
     {
         node_at(self.nodes.as_slice(), n).audit()

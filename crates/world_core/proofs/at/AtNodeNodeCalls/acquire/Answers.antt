@@ -1,39 +1,41 @@
-use Rattle.std.proofs.Common.{sym, ap, subst}
-use Rattle.node_core.specs.Calls.{IsCall, AreSame}
+use Rattle.std.proofs.Common.{sym, subst}
+use Rattle.node_core.specs.Calls.{NotAsked, IsCall, AreSame}
 use Rattle.world_core.specs.Laws.{IsNode}
 use Rattle.world_core.specs.At.{At, reached, at_reach, IsOpenAt, IsCommittedAt}
+use Rattle.world_core.specs.Nodes.{KeptNodes, told_in}
 use Rattle.world_core.specs.State.{world_of}
 use Rattle.world_core.specs.World.{node_of}
 use Rattle.world_core.proofs.Honest.{with-IsNode}
 use Rattle.world_core.proofs.CallsKept.{acquire-kept}
-use Rattle.world_core.proofs.AtCalls.{beside-of, call-of, idle-same, acquire-idle}
+use Rattle.world_core.proofs.OneOf.{put_alone, with_kept}
+use Rattle.world_core.proofs.AtCalls.{beside-of, alone-call, idle-same, acquire-idle}
 use Rattle.world_core.proofs.at.AtNodeNodeCalls.acquire.Goals as goal
 
 pub invariant_of-self : goal.invariant_of-self
 invariant_of-self c =
     let w = world_of c.self.inside.state in
-    let ns = c.acquire_at.new.nodes.items in
+    let ns = told_in c.acquire_at.new.nodes.items in
     let others = c.acquire_at.ensures.others in (
-      acquire-kept w (record w { nodes = ns }) c.self.inside.n c.args.start.now c.args.now c.acquire_at.result (node_of ns c.self.inside.n) c.self.invariant.0 c.self.invariant.1 c.acquire_at.ensures.step (ap (λ xs. record w { nodes = xs }) others),
-      subst (λ list. IsNode list c.self.inside.n) (sym others) (with-IsNode w.nodes c.self.inside.n c.self.inside.n (node_of ns c.self.inside.n) c.self.invariant.1),
+      acquire-kept w (with_kept w ns) c.self.inside.n c.args.start.now c.args.now c.acquire_at.result (node_of ns.nodes c.self.inside.n) c.self.invariant.0 c.self.invariant.1 c.acquire_at.ensures.step (put_alone w c.self.inside.n ns others c.acquire_at.ensures.keeper),
+      subst (λ (x : KeptNodes). IsNode x.nodes c.self.inside.n) (sym others) (with-IsNode w.nodes c.self.inside.n c.self.inside.n (node_of ns.nodes c.self.inside.n) c.self.invariant.1),
     )
 
 pub returns-clause-call : goal.returns-clause-call
 returns-clause-call c =
     let old : At = record { world = world_of c.self.inside.state; n = c.self.inside.n } in
-    let new : At = record { world = record (world_of c.self.inside.state) { nodes = c.acquire_at.new.nodes.items }; n = c.self.inside.n } in
-    subst (λ (a : At). IsCall at_reach a new) c.self.view_is (call-of old new (beside-of old.world old.n c.acquire_at.new.nodes.items c.acquire_at.ensures.others))
+    let new : At = record { world = with_kept (world_of c.self.inside.state) (told_in c.acquire_at.new.nodes.items); n = c.self.inside.n } in
+    subst (λ (a : At). IsCall at_reach NotAsked a new) c.self.view_is (alone-call old new (beside-of old.world old.n NotAsked (told_in c.acquire_at.new.nodes.items) c.acquire_at.ensures.others c.acquire_at.ensures.keeper))
 
 pub returns-clause-open : goal.returns-clause-open
 returns-clause-open c =
     let old : At = record { world = world_of c.self.inside.state; n = c.self.inside.n } in
-    let new : At = record { world = record (world_of c.self.inside.state) { nodes = c.acquire_at.new.nodes.items }; n = c.self.inside.n } in
+    let new : At = record { world = with_kept (world_of c.self.inside.state) (told_in c.acquire_at.new.nodes.items); n = c.self.inside.n } in
     subst (λ (a : At). AreSame (IsOpenAt a) (IsOpenAt new)) c.self.view_is
-    (idle-same old new (beside-of old.world old.n c.acquire_at.new.nodes.items c.acquire_at.ensures.others) (acquire-idle (reached old) (reached new) c.args.start.now c.args.now c.acquire_at.result c.acquire_at.ensures.step)).0
+    (idle-same old new (beside-of old.world old.n NotAsked (told_in c.acquire_at.new.nodes.items) c.acquire_at.ensures.others c.acquire_at.ensures.keeper) (acquire-idle (reached old) (reached new) c.args.start.now c.args.now c.acquire_at.result c.acquire_at.ensures.step)).0
 
 pub returns-clause-committed : goal.returns-clause-committed
 returns-clause-committed c =
     let old : At = record { world = world_of c.self.inside.state; n = c.self.inside.n } in
-    let new : At = record { world = record (world_of c.self.inside.state) { nodes = c.acquire_at.new.nodes.items }; n = c.self.inside.n } in
+    let new : At = record { world = with_kept (world_of c.self.inside.state) (told_in c.acquire_at.new.nodes.items); n = c.self.inside.n } in
     subst (λ (a : At). AreSame (IsCommittedAt a) (IsCommittedAt new)) c.self.view_is
-    (idle-same old new (beside-of old.world old.n c.acquire_at.new.nodes.items c.acquire_at.ensures.others) (acquire-idle (reached old) (reached new) c.args.start.now c.args.now c.acquire_at.result c.acquire_at.ensures.step)).1
+    (idle-same old new (beside-of old.world old.n NotAsked (told_in c.acquire_at.new.nodes.items) c.acquire_at.ensures.others c.acquire_at.ensures.keeper) (acquire-idle (reached old) (reached new) c.args.start.now c.args.now c.acquire_at.result c.acquire_at.ensures.step)).1

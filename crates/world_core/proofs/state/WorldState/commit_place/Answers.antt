@@ -1,6 +1,7 @@
 use Rattle.std.proofs.Common.{◌≡◌, refl, subst, false}
 use Rattle.std.specs.Prelude.{IfSome}
 use Rattle.world_core.specs.World.{Ticket}
+use Rattle.world_core.specs.Nodes.{told_in}
 use Rattle.world_core.specs.State.{world_of}
 use Rattle.world_core.proofs.Events.{ticket-Contains}
 use Rattle.world_core.proofs.Outcomes.{found_ticket, commit-done, if_ok}
@@ -32,6 +33,6 @@ returns-clause-ok c =
     let e = found_ticket w c.args.k c.args.at t c.requires.place c.remove-held.ensures.value in
     if_ok c.commit_held-held.result.1 _ _
     (λ happened h.
-    commit-done w c.args.k c.args.at t c.commit_held-held.result.0 happened c.commit_held-held.new.nodes.items c.insert.new.self.items c.requires.kept.lawful.tickets.rising c.requires.place e h
+    commit-done w c.args.k c.args.at t c.commit_held-held.result.0 happened (told_in c.commit_held-held.new.nodes.items) c.insert.new.self.items c.requires.kept.lawful.tickets.rising c.requires.place e h
     (rw (c.insert.ensures.items, c.unwrap.ensures, c.remove-held.ensures.items) refl))
     c.commit_held-held.ensures.ok

@@ -3,6 +3,7 @@ use Rattle.ldap_types.specs.declared.reply.LdapResult.{LdapResult}
 use Rattle.world_core.specs.declared.event.Happened.{Happened}
 use Rattle.world_core.specs.declared.event.Happened.TheVariants as what
 use Rattle.world_core.specs.World.{Ticket, Outcome}
+use Rattle.world_core.specs.Nodes.{told_in}
 use Rattle.world_core.specs.State.{world_of}
 use Rattle.world_core.specs.Taken.{IsKept}
 use Rattle.world_core.proofs.Events.{ticket-Contains}
@@ -40,7 +41,7 @@ returns c =
     let t = c.remove-held.result in
     let e = found_ticket w c.args.k c.args.at t c.requires.place c.remove-held.ensures.value in
     let step = λ (happened : Option LdapResult → Happened).
-    end-done w c.args.k c.args.at t (λ (x : Ticket). happened x.trouble) (happened c.end_held.result) c.end_held.new.nodes.items c.remove-held.new.self.items c.requires.kept.lawful.tickets.rising c.requires.place e c.end_held.ensures.nodes c.remove-held.ensures.items (ap happened (sym c.end_held.ensures.trouble)) in
+    end-done w c.args.k c.args.at t (λ (x : Ticket). happened x.trouble) (happened c.end_held.result) (told_in c.end_held.new.nodes.items) c.remove-held.new.self.items c.requires.kept.lawful.tickets.rising c.requires.place e c.end_held.ensures.nodes c.end_held.ensures.keepers c.remove-held.ensures.items (ap happened (sym c.end_held.ensures.trouble)) in
     record {
       step = step;
       fewer = search rules;

@@ -8,6 +8,7 @@ use Rattle.node_core.specs.Node.{Node}
 use Rattle.node_core.specs.Steps.{offer}
 use Rattle.node_core.specs.Calls.{Offers}
 use Rattle.node_core.proofs.Offers.{offer-is}
+use Rattle.world_core.specs.Nodes.{nodes_in}
 use Rattle.world_core.specs.World.{node_of, node_in, session_in}
 use Rattle.world_core.specs.State.{world_of}
 use Rattle.world_core.proofs.SessionSteps.{offer-made}
@@ -23,8 +24,8 @@ returns-in_ok-cursor-in-Next-clause-ok c =
     let cursor = c.in_ok-cursor-in-Next.cursor in
     let e : session_in w c.args.a c.args.b ≡ Some s = c.requires.found s ∙ ap (λ x. Some x) (sym (c.index.ensures ∙ ap (λ xs. get_or xs c.args.at s) c.reserve.ensures.items)) in
     let o : offer (node_in w c.args.a) s.cursor ≡ Some u =
-    subst (λ (m : Node). offer m s.cursor ≡ Some u) (c.node_at.ensures ∙ ap (λ ns. node_of ns c.args.a) c.as_slice.ensures.value)
-    (subst (λ (x : Offer). Offers c.node_at.result.now s.cursor (Ok x)) c.in-Next.is c.in_ok-offer.ensures) in
+    subst (λ (m : Node). offer m s.cursor ≡ Some u) (c.node_at.ensures ∙ ap (λ xs. node_of (nodes_in xs) c.args.a) c.as_slice.ensures.value)
+    (subst (λ (x : Offer). Offers c.node_at.result.now.node s.cursor (Ok x)) c.in-Next.is c.in_ok-offer.ensures) in
     let sound = c.requires.kept.lawful.sound.sound c.args.a c.requires.node in
     let i = offer-is (node_in w c.args.a) s.cursor u sound o in
     let above : 0 < i.change.csn.rid = sound.taken_named i.change i.has in

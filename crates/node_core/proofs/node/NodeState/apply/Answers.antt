@@ -1,8 +1,0 @@
-use Rattle.std.proofs.Common.{sym, ap}
-use Rattle.std.specs.Prelude.{Err}
-use Rattle.node_core.proofs.Refusals.{refused}
-use Rattle.node_core.proofs.node.NodeState.apply.Goals as goal
-
-pub returns-in-Err-clause-step : goal.returns-in-Err-clause-step
-returns-in-Err-clause-step c =
-    refused c.args.self.now c.args.from c.args.update.now c.args.now c.in-Err.fault (sym c.in-Err.ensures.answer) (λ e. c.in-Err.ensures.keeper (ap (λ f. Err f) e))
