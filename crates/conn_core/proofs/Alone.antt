@@ -4,16 +4,17 @@ use Rattle.std.proofs.Math.Seq.{drop-append_seam}
 use Rattle.ldap_types.specs.declared.request.Request.{Request}
 use Rattle.io_edge.specs.declared.machine.Fed.{Fed}
 use Rattle.conn_core.specs.declared.conn.Conn.{Conn}
-use Rattle.conn_core.specs.Serving.{Reach, Session, AreServed, replies_to}
+use Rattle.conn_core.specs.Hearing.{Answering}
+use Rattle.conn_core.specs.Serving.{Session, AreServed, replies_of}
 use Rattle.conn_core.specs.Feeding.{session, CarriesPart, none_missing, some_missing, Feeds, FeedsPart, notice_of}
 
 -- the replies that are added are the same, whatever waits in front of them
-pub record Joins {N : Type 0} (c : Reach N) (now : ℕ) (requests : List Request) (old new : Session N) : Type 0 where
+pub record Joins {N : Type 0} (c : Answering N) (now : ℕ) (requests : List Request) (old new : Session N) : Type 0 where
   pub added : List (List ℕ)
   pub is : new.replies ≡ old.replies ++ added
   pub served : (front : List (List ℕ)) → AreServed c now requests (record old { replies = front }) (record new { replies = front ++ added })
 
-pub joins : {N : Type 0} (c : Reach N) (now : ℕ) (requests : List Request) (old new : Session N) → AreServed c now requests old new → Joins c now requests old new
+pub joins : {N : Type 0} (c : Answering N) (now : ℕ) (requests : List Request) (old new : Session N) → AreServed c now requests old new → Joins c now requests old new
 joins c now [] old new e = record {
   added = [];
   is = ap (λ (x : Session _). x.replies) e ∙ sym (append-nil old.replies);
@@ -23,18 +24,18 @@ joins c now (r ∷ rs) old new h =
     let m = h.0 in
     let s = h.1 in
     let k = joins c now rs m new h.2 in
-    let one = replies_to r.id r.op s.answer in
+    let one = replies_of r s.answer in
     record {
       added = one ++ k.added;
       is = k.is ∙ ap (λ (x : List (List ℕ)). x ++ k.added) s.replied ∙ append_assoc old.replies one k.added;
       served = λ front. (
         record m { replies = front ++ one },
-        record { answer = s.answer; served = s.served; replied = refl; counted = s.counted },
+        record { answer = s.answer; done = s.done; replied = refl; counted = s.counted },
         subst (λ (x : List (List ℕ)). AreServed c now rs (record m { replies = front ++ one }) (record new { replies = x })) (append_assoc front one k.added) (k.served (front ++ one)),
       );
     }
 
-pub feeds_alone : {N : Type 0} (c : Reach N) (now : ℕ) (piece : List ℕ) (old : Conn) (node : N) (fed : Fed) (new : Conn) (after : N) → Feeds c now piece old node fed new after
+pub feeds_alone : {N : Type 0} (c : Answering N) (now : ℕ) (piece : List ℕ) (old : Conn) (node : N) (fed : Fed) (new : Conn) (after : N) → Feeds c now piece old node fed new after
     → (added : List (List ℕ)) × (new.replies ≡ old.replies ++ added) × Feeds c now piece (record old { replies = [] }) node fed (record new { replies = added }) after
 feeds_alone c now piece old node fed new after f =
     let k = joins c now f.carried.requests (session old node) f.last f.carried.served in (
@@ -55,21 +56,21 @@ same_behind : (a b c : List (List ℕ)) → a ++ b ≡ a ++ c → b ≡ c
 same_behind a b c e = sym (drop-append_seam a b) ∙ ap (λ (x : List (List ℕ)). drop (length a) x) e ∙ drop-append_seam a c
 
 -- a part of a stream, whatever waits in front of the replies
-carries_alone : {N : Type 0} (c : Reach N) (now : ℕ) (bytes : List ℕ) (old new : Session N) (added : List (List ℕ)) → CarriesPart c now bytes old new → new.replies ≡ old.replies ++ added → CarriesPart c now bytes (record old { replies = [] }) (record new { replies = added })
+carries_alone : {N : Type 0} (c : Answering N) (now : ℕ) (bytes : List ℕ) (old new : Session N) (added : List (List ℕ)) → CarriesPart c now bytes old new → new.replies ≡ old.replies ++ added → CarriesPart c now bytes (record old { replies = [] }) (record new { replies = added })
 carries_alone c now bytes old new added (none_missing left k) is =
     let j = joins c now k.requests old new k.served in
     let same : j.added ≡ added = same_behind old.replies j.added added (sym j.is ∙ is) in
     none_missing left (record { requests = k.requests; begins = k.begins; served = subst (λ (x : List (List ℕ)). AreServed c now k.requests (record old { replies = [] }) (record new { replies = x })) same (j.served []) })
 carries_alone c now bytes old new added (some_missing rest left r before last k begins s cut) is =
     let j = joins c now k.requests old before k.served in
-    let one = replies_to r.id r.op s.answer in
+    let one = replies_of r s.answer in
     let more = cut.kept in
     let same : j.added ++ more.0 ≡ added =
     same_behind old.replies (j.added ++ more.0) added
     (sym (append_assoc old.replies j.added more.0) ∙ ap (λ (x : List (List ℕ)). x ++ more.0) (sym j.is) ∙ sym more.1 ∙ is) in
     some_missing rest left r (record before { replies = j.added }) (record last { replies = j.added ++ one })
     (record { requests = k.requests; begins = k.begins; served = j.served [] }) begins
-    (record { answer = s.answer; served = s.served; replied = refl; counted = s.counted })
+    (record { answer = s.answer; done = s.done; replied = refl; counted = s.counted })
     (record {
       missing = cut.missing;
       replies = ap (λ (x : List (List ℕ)). j.added ++ x)
@@ -78,10 +79,11 @@ carries_alone c now bytes old new added (some_missing rest left r before last k 
       kept = (more.0, sym same);
       same_node = cut.same_node;
       same_bound = cut.same_bound;
+      same_consumer = cut.same_consumer;
       same_count = cut.same_count;
     })
 
-pub part_alone : {N : Type 0} (c : Reach N) (now : ℕ) (piece : List ℕ) (old : Conn) (node : N) (new : Conn) (after : N) → FeedsPart c now piece old node new after
+pub part_alone : {N : Type 0} (c : Answering N) (now : ℕ) (piece : List ℕ) (old : Conn) (node : N) (new : Conn) (after : N) → FeedsPart c now piece old node new after
     → (added : List (List ℕ)) × (new.replies ≡ old.replies ++ added) × FeedsPart c now piece (record old { replies = [] }) node (record new { replies = added }) after
 part_alone c now piece old node new after f =
     let w = f.waiting in (

@@ -6,16 +6,17 @@ use Rattle.io_edge.specs.declared.machine.Fed.{Fed}
 use Rattle.io_edge.specs.declared.machine.Fed.TheVariants.{Running}
 use Rattle.conn_core.specs.declared.conn.Conn.{Conn}
 use Rattle.conn_core.specs.Stream.{IsStream, BeginsWith}
-use Rattle.conn_core.specs.Serving.{Reach, Session, AreServed}
+use Rattle.conn_core.specs.Hearing.{Answering}
+use Rattle.conn_core.specs.Serving.{Session, AreServed}
 use Rattle.conn_core.specs.Feeding.{session, Feeds, FeedsInTurn, JoinsFeeds}
 use Rattle.conn_core.proofs.Cuts.{may_be_cut}
 
 -- some requests, and then others
-served_on : {N : Type 0} (c : Reach N) (now : ℕ) (first others : List Request) (old between new : Session N) → AreServed c now first old between → AreServed c now others between new → AreServed c now (first ++ others) old new
+served_on : {N : Type 0} (c : Answering N) (now : ℕ) (first others : List Request) (old between new : Session N) → AreServed c now first old between → AreServed c now others between new → AreServed c now (first ++ others) old new
 served_on c now [] others old between new a b = subst (λ s. AreServed c now others s new) a b
 served_on c now (r ∷ rs) others old between new a b = (a.0, a.1, served_on c now rs others a.0 between new a.2 b)
 
-module _ {N : Type 0} (c : Reach N) (now : ℕ) where
+module _ {N : Type 0} (c : Answering N) (now : ℕ) where
   -- what a feed that leaves the connection running came to
   running_state : (piece : List ℕ) (old new : Conn) (node after : N) (f : Feeds c now piece old node Running new after) → session new after ≡ f.last
   running_state piece old new node after f = f.state ∙ ap (λ rs. record f.last { replies = rs }) (append-nil f.last.replies)
@@ -50,5 +51,5 @@ module _ {N : Type 0} (c : Reach N) (now : ℕ) where
   turns first (next ∷ others) old new node after fed f =
       (both first (next ++ concat others) old f.0 new node f.1 after fed f.2 (turns next others f.0 new f.1 after fed f.3)).0
 
-pub joins_feeds : {N : Type 0} (c : Reach N) → JoinsFeeds c
+pub joins_feeds : {N : Type 0} (c : Answering N) → JoinsFeeds c
 joins_feeds c = record { joined = λ now. both c now; pieces = λ now. turns c now }

@@ -1,6 +1,7 @@
 pub mod Streams
 pub mod Tickets
 pub mod Lives
+pub mod Hearing
 pub mod Carrying
 pub mod Notices
 pub mod Writes

@@ -9,20 +9,20 @@ use Rattle.io_edge.specs.declared.machine.Fed.{Fed}
 use Rattle.io_edge.specs.declared.machine.Fed.TheVariants.{Running, Unbound, BadBytes, Closed}
 use Rattle.node_core.specs.Calls.{AreSame}
 use Rattle.conn_core.specs.declared.conn.Conn.{Conn}
-use Rattle.conn_core.specs.Serving.{Reach}
+use Rattle.conn_core.specs.Hearing.{Answering}
 use Rattle.conn_core.specs.Feeding.{Feeds, FeedsPart}
 use Rattle.conn_core.specs.Waiting.{waiting}
 use Rattle.conn_core.specs.Machine.{parts, FeedsSo, Adds}
 use Rattle.conn_core.proofs.Alone.{feeds_alone, part_alone}
 
 -- what every feed says of the tickets and the node's life
-pub record Keeps {N : Type 0} (c : Reach N) (is_open is_committed : N → Csn → Type 0) (node after : N) : Type 0 where
+pub record Keeps {N : Type 0} (c : Answering N) (is_open is_committed : N → Csn → Type 0) (node after : N) : Type 0 where
   pub open_tickets : AreSame (is_open node) (is_open after)
   pub committed : AreSame (is_committed node) (is_committed after)
-  pub life : (c.node after).life ≡ (c.node node).life
+  pub life : (c.reach.node after).life ≡ (c.reach.node node).life
 
 -- bytes are added to those that wait, by a feed with this result
-abbrev pub AddsSome : {N C : Type 0} → Reach N → (N → Csn → Type 0) → (N → Csn → Type 0) → (C → Option ℕ) → List ℕ → Conn → N → C → List ℕ → Result Fed NoMemory → Conn → N → Type 0
+abbrev pub AddsSome : {N C : Type 0} → Answering N → (N → Csn → Type 0) → (N → Csn → Type 0) → (C → Option ℕ) → List ℕ → Conn → N → C → List ℕ → Result Fed NoMemory → Conn → N → Type 0
 AddsSome c is_open is_committed tells rest old node clock piece result new after =
     (added : List ℕ) × (waiting rest new.replies ≡ waiting rest old.replies ++ added) × Adds c is_open is_committed tells (parts old node clock) piece result added (parts new after clock)
 
@@ -32,11 +32,11 @@ more_wait rest old new added e =
     ap (λ (x : List (List ℕ)). rest ++ concat x) e ∙ ap (λ (x : List ℕ). rest ++ x) (concat-append old added) ∙ sym (append_assoc rest (concat old) (concat added))
 
 -- a feed of the connection where no reply waits, with this result
-abbrev pub FeedsAlone : {N : Type 0} → Reach N → ℕ → List ℕ → Conn → N → Result Fed NoMemory → Conn → N → Type 0
+abbrev pub FeedsAlone : {N : Type 0} → Answering N → ℕ → List ℕ → Conn → N → Result Fed NoMemory → Conn → N → Type 0
 FeedsAlone c now piece old node result new after =
     (added : List (List ℕ)) × (new.replies ≡ old.replies ++ added) × FeedsSo c now piece (record old { replies = [] }) node result (record new { replies = added }) after
 
-adds_so : {N C : Type 0} (c : Reach N) (is_open is_committed : N → Csn → Type 0) (tells : C → Option ℕ) (rest : List ℕ) (old new : Conn) (node after : N) (clock : C) (now : ℕ) (piece : List ℕ) (result : Result Fed NoMemory) → IfSome (tells clock) (λ t. now ≡ t) → Keeps c is_open is_committed node after
+adds_so : {N C : Type 0} (c : Answering N) (is_open is_committed : N → Csn → Type 0) (tells : C → Option ℕ) (rest : List ℕ) (old new : Conn) (node after : N) (clock : C) (now : ℕ) (piece : List ℕ) (result : Result Fed NoMemory) → IfSome (tells clock) (λ t. now ≡ t) → Keeps c is_open is_committed node after
     → FeedsAlone c now piece old node result new after → AddsSome c is_open is_committed tells rest old node clock piece result new after
 adds_so c is_open is_committed tells rest old new node after clock now piece result time keeps f = (
   concat f.0,
@@ -56,7 +56,7 @@ adds_so c is_open is_committed tells rest old new node after clock now piece res
 
 -- ---- how the connection's feed ends
 
-feeds_as : {N : Type 0} (c : Reach N) (now : ℕ) (piece : List ℕ) (old : Conn) (node : N) (fed : Fed) (new : Conn) (after : N) → Feeds c now piece old node fed new after → FeedsSo c now piece old node (Ok fed) new after
+feeds_as : {N : Type 0} (c : Answering N) (now : ℕ) (piece : List ℕ) (old : Conn) (node : N) (fed : Fed) (new : Conn) (after : N) → Feeds c now piece old node fed new after → FeedsSo c now piece old node (Ok fed) new after
 feeds_as c now piece old node Running new after f = f
 feeds_as c now piece old node Unbound new after f = f
 feeds_as c now piece old node (BadBytes place) new after f = f
@@ -76,7 +76,7 @@ is_fed : (a b : Fed) → told a ≡ told b → a ≡ b
 unfolding fed_in
 is_fed a b e = ap (λ (x : Told). fed_in x) e
 
-alone_ok : {N : Type 0} (c : Reach N) (now : ℕ) (piece : List ℕ) (old new : Conn) (node after : N) (fed : Fed) (b : Bool) → old.is_closed ≡ b → (told fed ≡ told Closed) ↔ (old.is_closed ≡ true)
+alone_ok : {N : Type 0} (c : Answering N) (now : ℕ) (piece : List ℕ) (old new : Conn) (node after : N) (fed : Fed) (b : Bool) → old.is_closed ≡ b → (told fed ≡ told Closed) ↔ (old.is_closed ≡ true)
     → (old.is_closed ≡ true → (new ≡ old) × (after ≡ node)) → (old.is_closed ≡ false → Feeds c now piece old node fed new after) → FeedsAlone c now piece old node (Ok fed) new after
 alone_ok c now piece old new node after fed true e closed same feeds =
     let k = same e in
@@ -92,14 +92,14 @@ alone_ok c now piece old new node after fed false e closed same feeds =
 
 -- ---- the clauses
 
-pub ok_adds : {N C : Type 0} (c : Reach N) (is_open is_committed : N → Csn → Type 0) (tells : C → Option ℕ) (rest : List ℕ) (old new : Conn) (node after : N) (clock : C) (now : ℕ) (piece : List ℕ) (fed : Fed) → IfSome (tells clock) (λ t. now ≡ t) → Keeps c is_open is_committed node after
+pub ok_adds : {N C : Type 0} (c : Answering N) (is_open is_committed : N → Csn → Type 0) (tells : C → Option ℕ) (rest : List ℕ) (old new : Conn) (node after : N) (clock : C) (now : ℕ) (piece : List ℕ) (fed : Fed) → IfSome (tells clock) (λ t. now ≡ t) → Keeps c is_open is_committed node after
     → (told fed ≡ told Closed) ↔ (old.is_closed ≡ true) → (old.is_closed ≡ true → (new ≡ old) × (after ≡ node)) → (old.is_closed ≡ false → Feeds c now piece old node fed new after)
     → AddsSome c is_open is_committed tells rest old node clock piece (Ok fed) new after
 ok_adds c is_open is_committed tells rest old new node after clock now piece fed time keeps closed same feeds =
     adds_so c is_open is_committed tells rest old new node after clock now piece (Ok fed) time keeps
     (alone_ok c now piece old new node after fed old.is_closed refl closed same feeds)
 
-pub err_adds : {N C : Type 0} (c : Reach N) (is_open is_committed : N → Csn → Type 0) (tells : C → Option ℕ) (rest : List ℕ) (old new : Conn) (node after : N) (clock : C) (now : ℕ) (piece : List ℕ) (short : NoMemory) → IfSome (tells clock) (λ t. now ≡ t) → Keeps c is_open is_committed node after
+pub err_adds : {N C : Type 0} (c : Answering N) (is_open is_committed : N → Csn → Type 0) (tells : C → Option ℕ) (rest : List ℕ) (old new : Conn) (node after : N) (clock : C) (now : ℕ) (piece : List ℕ) (short : NoMemory) → IfSome (tells clock) (λ t. now ≡ t) → Keeps c is_open is_committed node after
     → FeedsPart c now piece old node new after → AddsSome c is_open is_committed tells rest old node clock piece (Err short) new after
 err_adds c is_open is_committed tells rest old new node after clock now piece short time keeps part =
     let k = part_alone c now piece old node new after part in

@@ -1,5 +1,8 @@
 -- The calls of a write: the life of the node stays, and what is answered is said by them.
-use Rattle.std.proofs.Common.{◌≡◌, ℕ, Some, Result, Ok, Err, sym, ap, ◌∙◌}
+use Rattle.std.proofs.Common.{◌≡◌, ℕ, Bool, true, false, not, Some, Result, Ok, Err, sym, ap, ◌∙◌}
+use Rattle.std.specs.Prelude.{IsTrue}
+use Rattle.ldap_rules.specs.Verdict.{is_change, is_update}
+use Rattle.node_core.specs.Calls.{IsWrite}
 use Rattle.repl_data.specs.declared.csn.Csn.{Csn}
 use Rattle.repl_data.specs.declared.items.NoMemory.{NoMemory}
 use Rattle.ldap_types.specs.declared.request.Request.{Request}
@@ -31,6 +34,11 @@ receipt_life c now bound request ticket old new receipt k = k.step.1 ∙ sym (co
 -- a ticket that was just begun is of the life that its commit meets
 pub ticket_life : {N : Type 0} (c : Reach N) (now : ℕ) (old begun next : N) (ticket : Ticket) → IsBegun c now old begun (Ok ticket) → IsCall c begun next → ticket.life ≡ (c.met begun next).life
 ticket_life c now old begun next ticket b k = b.step.1 ∙ sym (begun_life (c.met old begun) (c.node begun) now (Ok ticket) b.step) ∙ sym k.life
+
+-- a request that is judged is one that a commit takes
+pub write_parts : (request : Request) (bound : Identity) (change update : Bool) → change ≡ is_change request.op → change ≡ true → update ≡ is_update request bound → IsTrue (not update) → IsWrite request bound
+write_parts request bound change true e t u none = let f : false ≡ true = none in absurd cc
+write_parts request bound change false e t u none = record { writes = sym e ∙ t; no_update = sym u }
 
 -- ---- what is answered
 

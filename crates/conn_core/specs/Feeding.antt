@@ -1,5 +1,5 @@
 -- What a feed of a connection comes to.
-use Rattle.std.specs.Prelude.{◌≡◌, ℕ, Bool, true, false, List, [], ◌∷◌, ◌++◌, Result, Ok, Err}
+use Rattle.std.specs.Prelude.{◌≡◌, ℕ, Bool, true, false, List, [], ◌∷◌, ◌++◌, None, Result, Ok, Err}
 use Rattle.std.specs.List.{concat}
 use Rattle.repl_data.specs.declared.items.NoMemory.{NoMemory}
 use Rattle.ldap_types.specs.declared.request.Request.{Request}
@@ -8,17 +8,18 @@ use Rattle.io_edge.specs.declared.machine.Fed.{Fed}
 use Rattle.io_edge.specs.declared.machine.Fed.TheVariants.{Running, BadBytes}
 use Rattle.conn_core.specs.declared.conn.Conn.{Conn}
 use Rattle.conn_core.specs.Stream.{BeginsWith, EndsSo}
-use Rattle.conn_core.specs.Serving.{Reach, Session, IsServed, AreServed, notice}
+use Rattle.conn_core.specs.Hearing.{Answering}
+use Rattle.conn_core.specs.Serving.{Session, IsServed, AreServed, notice}
 
 -- a connection that was not fed yet
 abbrev pub new_conn : Conn
-new_conn = record { held = []; replies = []; bound = Anonymous; starved = 0; is_closed = false }
+new_conn = record { held = []; replies = []; bound = Anonymous; consumer = record { from = None }; starved = 0; is_closed = false }
 
 abbrev pub session : {N : Type 0} → Conn → N → Session N
-session conn node = record { node = node; bound = conn.bound; replies = conn.replies; starved = conn.starved }
+session conn node = record { node = node; bound = conn.bound; consumer = conn.consumer; replies = conn.replies; starved = conn.starved }
 
 -- THE REQUESTS at the front of the bytes are carried out, from the one state to the other, and these bytes are left
-pub record Carries {N : Type 0} (c : Reach N) (now : ℕ) (bytes : List ℕ) (old : Session N) (left : List ℕ) (new : Session N) : Type 0 where
+pub record Carries {N : Type 0} (c : Answering N) (now : ℕ) (bytes : List ℕ) (old : Session N) (left : List ℕ) (new : Session N) : Type 0 where
   pub requests : List Request
   pub begins : BeginsWith bytes requests left
   pub served : AreServed c now requests old new
@@ -38,7 +39,7 @@ is_end Running = false
 is_end _ = true
 
 -- A FEED of an open connection: the requests that the bytes so far make whole are carried out
-pub record Feeds {N : Type 0} (c : Reach N) (now : ℕ) (piece : List ℕ) (old : Conn) (node : N) (fed : Fed) (new : Conn) (after : N) : Type 0 where
+pub record Feeds {N : Type 0} (c : Answering N) (now : ℕ) (piece : List ℕ) (old : Conn) (node : N) (fed : Fed) (new : Conn) (after : N) : Type 0 where
   pub left : List ℕ
   pub last : Session N
   pub carried : Carries c now (old.held ++ piece) (session old node) left last
@@ -50,14 +51,14 @@ pub record Feeds {N : Type 0} (c : Reach N) (now : ℕ) (piece : List ℕ) (old 
 -- ---- feeds one behind the other
 
 -- The bytes `first`, and then the others, are fed in turn; each feed but the last leaves the connection running.
-abbrev pub FeedsInTurn : {N : Type 0} → Reach N → ℕ → List ℕ → List (List ℕ) → Conn → N → Fed → Conn → N → Type 0
+abbrev pub FeedsInTurn : {N : Type 0} → Answering N → ℕ → List ℕ → List (List ℕ) → Conn → N → Fed → Conn → N → Type 0
 FeedsInTurn c now first [] old node fed new after = Feeds c now first old node fed new after
 FeedsInTurn c now first (next ∷ others) old node fed new after =
     (between : Conn) × (met : _) × Feeds c now first old node Running between met × FeedsInTurn c now next others between met fed new after
 
 -- A feed of two pieces, the first of which leaves the connection running, is one feed of the joined bytes: it carries out the
 -- requests of the one and then those of the other.
-pub record JoinsFeeds {N : Type 0} (c : Reach N) : Type 0 where
+pub record JoinsFeeds {N : Type 0} (c : Answering N) : Type 0 where
   pub joined : (now : ℕ) (first next : List ℕ) (old between new : Conn) (node met after : N) (fed : Fed) →
       (a : Feeds c now first old node Running between met) → (b : Feeds c now next between met fed new after) →
       (whole : Feeds c now (first ++ next) old node fed new after) × (whole.carried.requests ≡ a.carried.requests ++ b.carried.requests)
@@ -79,10 +80,11 @@ pub record IsCut {N : Type 0} (before whole cut : Session N) : Type 0 where
   pub kept : StillWait before.replies cut.replies
   pub same_node : cut.node ≡ whole.node
   pub same_bound : cut.bound ≡ whole.bound
+  pub same_consumer : cut.consumer ≡ whole.consumer
   pub same_count : cut.starved ≡ whole.starved
 
 -- The first requests are carried out, each whole, and replies to the last one may be missing.
-pub data CarriesPart {N : Type 0} (c : Reach N) (now : ℕ) (bytes : List ℕ) (old new : Session N) : Type 0 where
+pub data CarriesPart {N : Type 0} (c : Answering N) (now : ℕ) (bytes : List ℕ) (old new : Session N) : Type 0 where
   none_missing : (left : List ℕ) → Carries c now bytes old left new → CarriesPart c now bytes old new
   some_missing : (rest left : List ℕ) (request : Request) (before last : Session N) → Carries c now bytes old rest before → BeginsWith rest (request ∷ []) left
       → IsServed c now request before last → IsCut before last new → CarriesPart c now bytes old new
@@ -100,7 +102,7 @@ pub record JoinsPart (replies : List (List ℕ)) (old new : Conn) : Type 0 where
   pub state : new ≡ record old { replies = old.replies ++ added }
 
 -- AFTER WANT OF MEMORY the first requests are carried out, and the connection has ended.
-pub record FeedsPart {N : Type 0} (c : Reach N) (now : ℕ) (piece : List ℕ) (old : Conn) (node : N) (new : Conn) (after : N) : Type 0 where
+pub record FeedsPart {N : Type 0} (c : Answering N) (now : ℕ) (piece : List ℕ) (old : Conn) (node : N) (new : Conn) (after : N) : Type 0 where
   pub part : CarriesPart c now (old.held ++ piece) (session old node) (session new after)
   pub waiting : StillWait old.replies new.replies
   pub held : new.held ≡ []

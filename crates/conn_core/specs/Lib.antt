@@ -1,6 +1,7 @@
 pub mod Stream
 pub mod Whole
 pub mod First
+pub mod Hearing
 pub mod Serving
 pub mod Comparing
 pub mod Feeding

@@ -7,7 +7,6 @@ use Rattle.repl_data.specs.declared.change.ShownEntry.{ShownEntry}
 use Rattle.repl_data.specs.declared.change.Val.{Val}
 use Rattle.repl_data.specs.declared.items.NoMemory.{NoMemory}
 use Rattle.repl_data.specs.Check.{is_empty}
-use Rattle.repl_data.specs.Order.{bytes_eq}
 use Rattle.ldap_types.specs.declared.request.Request.{Request}
 use Rattle.ldap_types.specs.declared.request.BindRequest.{BindRequest}
 use Rattle.ldap_types.specs.declared.request.Control.{Control}
@@ -38,19 +37,13 @@ use Rattle.node_core.specs.Answers.{used_up}
 use Rattle.node_core.specs.Searches.{searched}
 use Rattle.node_core.specs.Steps.{judge_view, ended}
 use Rattle.node_core.specs.Calls.{Begins, Commits, CommitCause, is_client_write}
+use Rattle.ldap_types.specs.declared.reply.Reply.{Reply}
+use Rattle.ldap_rules.specs.Verdict.{is_change, is_update}
+use Rattle.replica_session.specs.declared.consumer.Consumer.{Consumer}
+use Rattle.conn_core.specs.Hearing.{is_session, is_message, Answering, Hears}
 pub use Rattle.node_core.specs.Calls.{Reach, IsCall}
 
--- ---- which requests are built
-
-abbrev pub start_name : List ℕ
-start_name = codes "2.999.389.1"
-
-abbrev pub end_name : List ℕ
-end_name = codes "2.999.389.2"
-
--- the extended operations that open and close a session between servers
-abbrev pub is_session : List ℕ → Bool
-is_session oid = bytes_eq oid start_name || bytes_eq oid end_name
+-- ---- the requests of clients
 
 -- the operations besides writes that have an answer of their own
 abbrev pub is_answered : Op → Bool
@@ -62,7 +55,7 @@ is_answered (op.Abandon id) = true
 is_answered (op.Extended oid value) = not (is_session oid)
 is_answered _ = false
 
--- Built are these, and the writes of clients.
+-- These, and the writes of clients: no start, end or update that one server sends another.
 abbrev pub is_built : Request → Bool
 is_built r = is_answered r.op || is_client_write r
 
@@ -254,20 +247,27 @@ abbrev pub Binds : BindRequest → Identity → LdapResult → Type 0
 Binds b after result = (bind_verdict b ≡ (after, result)) ⊎ ((after ≡ Anonymous) × (result ≡ result_of 80))
 
 -- The code of an answer that is the same on every node: `protocolError` to an extended operation of a name that nobody
--- knows. What is not built is `unwillingToPerform`. (An unbind and an abandon have no reply.)
+-- knows, and `insufficientAccessRights` to the start and the end of a session, which are for suppliers alone. (An unbind and an
+-- abandon have no reply; no other operation comes here.)
 abbrev pub plain_code : Op → ℕ
 plain_code op.Unbind = 0
 plain_code (op.Abandon id) = 0
-plain_code (op.Extended oid value) = if is_session oid then 53 else 2
+plain_code (op.Extended oid value) = if is_session oid then 50 else 2
 plain_code _ = 53
 
--- a request that is no bind, search or compare: a write of a client is written, and nothing else touches the node
+-- A WRITE: an add, a modify, a delete or a modify DN. With the control of updates it is one too, where the connection does not
+-- speak for a supplier: the rules refuse it.
+abbrev pub is_write : Identity → Request → Bool
+is_write bound r = is_change r.op && not (is_update r bound)
+
+-- a request that is no bind, search or compare: a write is written, and nothing else touches the node
 abbrev pub ServesOther : {N : Type 0} → Reach N → ℕ → Identity → Request → N → N → LdapResult → Type 0
 ServesOther c now bound request old new result =
-    ((is_client_write request ≡ true) × IsWritten c now bound request old new result)
-    ⊎ ((is_client_write request ≡ false) × (new ≡ old) × (result ≡ result_of (plain_code request.op)))
+    ((is_write bound request ≡ true) × IsWritten c now bound request old new result)
+    ⊎ ((is_write bound request ≡ false) × (new ≡ old) × (result ≡ result_of (plain_code request.op)))
 
--- What a request does at this time, on a connection that speaks for `bound`, leaving it to speak for `after`.
+-- What a request that is no message of a supplier does at this time, on a connection that speaks for `bound`, leaving it to
+-- speak for `after`.
 abbrev pub Serves : {N : Type 0} → Reach N → ℕ → Identity → Request → N → N → Identity → Found → Op → Type 0
 Serves c now bound request old new after answer (op.Bind b) = (new ≡ old) × Binds b after answer.result × (answer.entries ≡ [])
 Serves c now bound request old new after answer (op.Search s) = (after ≡ bound) × Searches c request.controls s old new answer
@@ -278,24 +278,53 @@ Serves c now bound request old new after answer other = (after ≡ bound) × Ser
 abbrev pub count_starved : LdapResult → ℕ → ℕ
 count_starved result n = if result.code.number == 80 then min (n + 1) (2 ^ 64 - 1) else n
 
+-- ---- any request
+
+-- WHAT A REQUEST IS ANSWERED: what is found, entries and a result; or, of a message, the reply of its session
+pub data Answer : Type 0 where
+  Finds : Found → Answer
+  Says : Reply → Answer
+
+abbrev pub answer_of : Result Reply LdapResult → Answer
+answer_of (Ok said) = Says said
+answer_of (Err result) = Finds (only result)
+
+-- the replies that it is
+abbrev pub replies_of : Request → Answer → List (List ℕ)
+replies_of r (Finds found) = replies_to r.id r.op found
+replies_of r (Says said) = reply_bytes said ∷ []
+
+-- one more, where it is `other`
+abbrev pub starved_by : Answer → ℕ → ℕ
+starved_by (Finds found) n = count_starved found.result n
+starved_by (Says said) n = n
+
+-- ANY REQUEST, on a connection that speaks for `bound` and has this session, leaving it so: a message of a supplier is heard by
+-- the session, and any other request is served
+pub data Does {N : Type 0} (c : Answering N) (now : ℕ) (r : Request) (bound : Identity) (session : Consumer) (node : N) (after : Identity) (left : Consumer) (behind : N) : Answer → Type 0 where
+  hears : (heard : Result Reply LdapResult) → is_message bound r ≡ true → after ≡ bound → Hears c now r session node left behind heard → Does c now r bound session node after left behind (answer_of heard)
+  serves : (found : Found) → is_message bound r ≡ false → left ≡ session → Serves c.reach now bound r node behind after found r.op → Does c now r bound session node after left behind (Finds found)
+
 -- a connection, and the node behind it, as a request finds them
 pub record Session (N : Type 0) : Type 0 where
   pub node : N
   -- whom the connection speaks for
   pub bound : Identity
+  -- what a supplier has begun on it
+  pub consumer : Consumer
   -- the replies that wait, in order
   pub replies : List (List ℕ)
   -- how many requests were answered `other`
   pub starved : ℕ
 
 -- ONE REQUEST IS CARRIED OUT, and its replies join those that wait
-pub record IsServed {N : Type 0} (c : Reach N) (now : ℕ) (request : Request) (old new : Session N) : Type 0 where
-  pub answer : Found
-  pub served : Serves c now old.bound request old.node new.node new.bound answer request.op
-  pub replied : new.replies ≡ old.replies ++ replies_to request.id request.op answer
-  pub counted : new.starved ≡ count_starved answer.result old.starved
+pub record IsServed {N : Type 0} (c : Answering N) (now : ℕ) (request : Request) (old new : Session N) : Type 0 where
+  pub answer : Answer
+  pub done : Does c now request old.bound old.consumer old.node new.bound new.consumer new.node answer
+  pub replied : new.replies ≡ old.replies ++ replies_of request answer
+  pub counted : new.starved ≡ starved_by answer old.starved
 
 -- one after the other
-abbrev pub AreServed : {N : Type 0} → Reach N → ℕ → List Request → Session N → Session N → Type 0
+abbrev pub AreServed : {N : Type 0} → Answering N → ℕ → List Request → Session N → Session N → Type 0
 AreServed c now [] old new = new ≡ old
 AreServed c now (r ∷ rs) old new = (between : Session _) × IsServed c now r old between × AreServed c now rs between new

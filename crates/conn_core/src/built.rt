@@ -1,4 +1,4 @@
-//! Whether all requests that are held are built.
+//! Whether all requests that are held are those of clients.
 
 ghost use Rattle.std.specs.Prelude.{◌≡◌, List, ℕ, IfOk};
 ghost use Rattle.std.specs.List.{list_all};
@@ -8,7 +8,7 @@ ghost use Rattle.conn_core.specs.Stream.{IsStream};
 ghost use Rattle.conn_core.specs.Serving.{is_answered, is_built};
 
 use crate::first::{First, read_first};
-use crate::reply::is_session;
+use crate::session::is_session;
 use ldap_types::{NoMemory, Op, Request};
 use node_core::is_client_write;
 use std::alloc::Global;
@@ -31,7 +31,7 @@ fn is_built(request: &Request) -> bool
     is_answered(&request.op) || is_client_write(request)
 }
 
-/// Each whole request of the stream is built.
+/// Each whole request of the stream is one of a client.
 pub(crate) fn are_built(alloc: Global, stream: &[u8]) -> Result<bool, NoMemory>
     ensures { IfOk result (λ built. (requests : List Request) (left : List ℕ) (fed : Fed) → IsStream stream.now requests left fed → built ≡ list_all is_built requests) }
 {

@@ -1,6 +1,6 @@
 //! The connection: bytes in, requests carried out, replies that wait.
 
-ghost use Rattle.std.specs.Prelude.{◌≡◌, ◌≢◌, ◌≤◌, ◌↔◌, ◌++◌, ◌∷◌, [], true, false, Ok, List, ℕ, length, map, drop, IfOk, IsOk, OnOk, OnErr, MatchOption};
+ghost use Rattle.std.specs.Prelude.{◌≡◌, ◌≢◌, ◌≤◌, ◌↔◌, ◌++◌, ◌∷◌, [], true, false, Ok, List, ℕ, length, map, drop, IfOk, IsOk, OnOk, OnErr, None, MatchOption};
 ghost use Rattle.std.specs.List.{list_all};
 ghost use Rattle.ldap_types.specs.declared.request.Request.{Request};
 ghost use Rattle.search_core.specs.declared.found.Found.{Found};
@@ -9,6 +9,7 @@ ghost use Rattle.io_edge.specs.declared.machine.Fed.{Fed};
 ghost use Rattle.node_core.specs.Calls.{AreSame};
 ghost use Rattle.conn_core.specs.Stream.{EndsSo, IsStream};
 ghost use Rattle.conn_core.specs.Serving.{is_built, entry_bytes, replies_to, Serves, Binds, Session, IsServed, IsAnswered};
+ghost use Rattle.conn_core.specs.Hearing.{is_message, answering, IsReleased};
 ghost use Rattle.conn_core.specs.Feeding.{new_conn, session, Carries, Feeds, FeedsPart, CarriesPart, StillWait, Leaves, held_of, is_end, notice_of, JoinsPart};
 
 use crate::answer::{entry_reply, only};
@@ -17,12 +18,14 @@ use crate::first::{First, read_first, waits};
 use crate::looking::{serve_compare, serve_search};
 use crate::queue::ReplyQueue;
 use crate::reply::{bytes_of, count_starved, notice, reply_to, result_of};
+use crate::session::{hear, is_message};
 use crate::write::serve_other;
 use io_edge::Fed;
 use ldap_rules::judge_bind;
 use ldap_types::{BindRequest, Bytes, Code, Identity, LdapResult, NoMemory, Op, Reply, Request};
 use node_core::NodeCalls;
 use repl_data::{ShownEntry, ShownEntryList};
+use replica_session::Consumer;
 use request_wait::Unfinished;
 use search_core::Found;
 use std::alloc::Global;
@@ -34,6 +37,7 @@ pub struct Conn {
     held: Unfinished,
     replies: ReplyQueue,
     bound: Identity,
+    consumer: Consumer,
     starved: u64,
     is_closed: bool,
 }
@@ -47,6 +51,7 @@ impl Conn {
             held: Unfinished::new(alloc),
             replies: ReplyQueue::new(alloc),
             bound: Identity::Anonymous,
+            consumer: Consumer::new(),
             starved: 0,
             is_closed: false,
         })
@@ -102,8 +107,8 @@ impl Conn {
         self.held.extend_from_slice(bytes)
     }
 
-    /// Each request that the held bytes make whole is built: a feed answers it by its rules. The rest is
-    /// answered `unwillingToPerform` (RFC 4511, appendix A).
+    /// Each request that the held bytes make whole is one of a client: it is no start, end or update that one
+    /// server sends another.
     pub fn are_built(&mut self, alloc: Global) -> Result<bool, NoMemory>
         ensures built { IfOk result (λ built. (requests : List Request) (left : List ℕ) (fed : Fed) → IsStream self.old.held requests left fed → built ≡ list_all is_built requests) }
         ensures same { self.new ≡ self.old }
@@ -131,7 +136,7 @@ impl Conn {
         }
     }
 
-    /// Does what a request asks for, and gives its answer.
+    /// Does what a request asks for that is no message of a supplier, and gives its answer.
     fn answer<N: NodeCalls>(
         &mut self,
         alloc: Global,
@@ -223,15 +228,16 @@ impl Conn {
         Ok(())
     }
 
-    /// Carries out a request. Its replies join those that wait.
-    fn carry_out<N: NodeCalls>(
+    /// Carries out a request that is no message of a supplier. Its replies join those that wait.
+    fn carry_request<N: NodeCalls>(
         &mut self,
         alloc: Global,
         node: &mut N,
         now: u32,
         request: &Request,
     ) -> Result<(), NoMemory>
-        ensures served { (last : Session N) × IsServed N.reach now request.now (session self.old node.old) last × Leaves result (session self.old node.old) last (session self.new node.new) }
+        requires { is_message self.old.bound request.now ≡ false }
+        ensures served { (last : Session N) × IsServed (answering N.reach N.heard) now request.now (session self.old node.old) last × Leaves result (session self.old node.old) last (session self.new node.new) }
         ensures waiting { StillWait self.old.replies self.new.replies }
         ensures held { self.new.held ≡ self.old.held }
         ensures closed { self.new.is_closed ≡ self.old.is_closed }
@@ -249,6 +255,62 @@ impl Conn {
         Ok(())
     }
 
+    /// Carries out a message of a supplier. Its reply joins those that wait.
+    fn carry_message<N: NodeCalls>(
+        &mut self,
+        alloc: Global,
+        node: &mut N,
+        now: u32,
+        request: &Request,
+    ) -> Result<(), NoMemory>
+        requires { is_message self.old.bound request.now ≡ true }
+        ensures served { (last : Session N) × IsServed (answering N.reach N.heard) now request.now (session self.old node.old) last × Leaves result (session self.old node.old) last (session self.new node.new) }
+        ensures waiting { StillWait self.old.replies self.new.replies }
+        ensures held { self.new.held ≡ self.old.held }
+        ensures closed { self.new.is_closed ≡ self.old.is_closed }
+        ensures open { AreSame (N.is_open node.old) (N.is_open node.new) }
+        ensures committed { AreSame (N.is_committed node.old) (N.is_committed node.new) }
+        ensures life { (N.reach.node node.new).life ≡ (N.reach.node node.old).life }
+    {
+        match hear(alloc, &mut self.consumer, node, now, request) {
+            Ok(reply) => {
+                if let Err(NoMemory) = self.send(alloc, &reply) {
+                    return Err(NoMemory);
+                }
+                Ok(())
+            }
+            Err(told) => {
+                self.starved = count_starved(&told, self.starved);
+                if let Err(NoMemory) = self.reply(alloc, request, only(alloc, told)) {
+                    return Err(NoMemory);
+                }
+                Ok(())
+            }
+        }
+    }
+
+    /// Carries out a request. Its replies join those that wait.
+    fn carry_out<N: NodeCalls>(
+        &mut self,
+        alloc: Global,
+        node: &mut N,
+        now: u32,
+        request: &Request,
+    ) -> Result<(), NoMemory>
+        ensures served { (last : Session N) × IsServed (answering N.reach N.heard) now request.now (session self.old node.old) last × Leaves result (session self.old node.old) last (session self.new node.new) }
+        ensures waiting { StillWait self.old.replies self.new.replies }
+        ensures held { self.new.held ≡ self.old.held }
+        ensures closed { self.new.is_closed ≡ self.old.is_closed }
+        ensures open { AreSame (N.is_open node.old) (N.is_open node.new) }
+        ensures committed { AreSame (N.is_committed node.old) (N.is_committed node.new) }
+        ensures life { (N.reach.node node.new).life ≡ (N.reach.node node.old).life }
+    {
+        if is_message(self.bound, request) {
+            return self.carry_message(alloc, node, now, request);
+        }
+        self.carry_request(alloc, node, now, request)
+    }
+
     /// Carries out the requests at the front of the stream. Gives why no other is, and where.
     fn serve<N: NodeCalls>(
         &mut self,
@@ -257,9 +319,9 @@ impl Conn {
         now: u32,
         stream: &[u8],
     ) -> Result<(Fed, usize), NoMemory>
-        ensures served { IfOk result (λ p. Carries N.reach now stream.now (session self.old node.old) (drop p.1 stream.now) (session self.new node.new) × EndsSo (drop p.1 stream.now) p.0) }
+        ensures served { IfOk result (λ p. Carries (answering N.reach N.heard) now stream.now (session self.old node.old) (drop p.1 stream.now) (session self.new node.new) × EndsSo (drop p.1 stream.now) p.0) }
         ensures within { IfOk result (λ p. p.1 ≤ length stream.now) }
-        ensures cut { OnErr result (CarriesPart N.reach now stream.now (session self.old node.old) (session self.new node.new)) }
+        ensures cut { OnErr result (CarriesPart (answering N.reach N.heard) now stream.now (session self.old node.old) (session self.new node.new)) }
         ensures waiting { StillWait self.old.replies self.new.replies }
         ensures held { self.new.held ≡ self.old.held }
         ensures closed { self.new.is_closed ≡ self.old.is_closed }
@@ -299,7 +361,7 @@ impl Conn {
         ensures held { OnOk result (self.new.held ≡ held_of fed (drop at stream)) }
         ensures closed { OnOk result (self.new.is_closed ≡ is_end fed) }
         ensures replies { OnOk result (self.new.replies ≡ self.old.replies ++ notice_of fed) }
-        ensures others { (self.new.bound ≡ self.old.bound) × (self.new.starved ≡ self.old.starved) }
+        ensures others { (self.new.bound ≡ self.old.bound) × (self.new.consumer ≡ self.old.consumer) × (self.new.starved ≡ self.old.starved) }
         ensures err { OnErr result ((self.new.replies ≡ self.old.replies) × (self.new.held ≡ [])) }
     {
         self.is_closed = true;
@@ -326,8 +388,8 @@ impl Conn {
         piece: &[u8],
     ) -> Result<Fed, NoMemory>
         requires { self.old.is_closed ≡ false }
-        ensures fed { IfOk result (λ fed. Feeds N.reach now piece.now self.old node.old fed self.new node.new) }
-        ensures part { OnErr result (CarriesPart N.reach now (self.old.held ++ piece.now) (session self.old node.old) (session self.new node.new)) }
+        ensures fed { IfOk result (λ fed. Feeds (answering N.reach N.heard) now piece.now self.old node.old fed self.new node.new) }
+        ensures part { OnErr result (CarriesPart (answering N.reach N.heard) now (self.old.held ++ piece.now) (session self.old node.old) (session self.new node.new)) }
         ensures waiting { OnErr result (StillWait self.old.replies self.new.replies) }
         ensures empty { OnErr result (self.new.held ≡ []) }
         ensures open { AreSame (N.is_open node.old) (N.is_open node.new) }
@@ -366,8 +428,8 @@ impl Conn {
     ) -> Result<Fed, NoMemory>
         ensures closed { (result ≡ Ok Fed.Closed) ↔ (self.old.is_closed ≡ true) }
         ensures unchanged { self.old.is_closed ≡ true → (self.new ≡ self.old) × (node.new ≡ node.old) }
-        ensures fed { self.old.is_closed ≡ false → IfOk result (λ fed. Feeds N.reach now bytes.now self.old node.old fed self.new node.new) }
-        ensures part { OnErr result (FeedsPart N.reach now bytes.now self.old node.old self.new node.new) }
+        ensures fed { self.old.is_closed ≡ false → IfOk result (λ fed. Feeds (answering N.reach N.heard) now bytes.now self.old node.old fed self.new node.new) }
+        ensures part { OnErr result (FeedsPart (answering N.reach N.heard) now bytes.now self.old node.old self.new node.new) }
         ensures open { AreSame (N.is_open node.old) (N.is_open node.new) }
         ensures committed { AreSame (N.is_committed node.old) (N.is_committed node.new) }
         ensures life { (N.reach.node node.new).life ≡ (N.reach.node node.old).life }
@@ -385,14 +447,19 @@ impl Conn {
         }
     }
 
-    /// The stream of the client has ended: an unfinished message is dropped, and the connection takes
-    /// no more bytes. Takes no memory.
-    pub fn closed<N: NodeCalls>(&mut self, _node: &mut N)
-        ensures conn { self.new ≡ record self.old { held = []; is_closed = true } }
-        ensures node { _node.new ≡ _node.old }
+    /// The stream of the client has ended: an unfinished message is dropped, and the connection takes no more
+    /// bytes. A supplier whose start was accepted on it holds the node no longer. Takes no memory.
+    pub fn closed<N: NodeCalls>(&mut self, node: &mut N)
+        ensures conn { self.new ≡ record self.old { held = []; consumer = record { from = None }; is_closed = true } }
+        ensures released { MatchOption self.old.consumer.from (node.new ≡ node.old) (λ rid. IsReleased N.reach rid node.old node.new) }
+        ensures open { AreSame (N.is_open node.old) (N.is_open node.new) }
+        ensures committed { AreSame (N.is_committed node.old) (N.is_committed node.new) }
     {
         self.held.clear();
         self.is_closed = true;
+        if let Some(rid) = self.consumer.leaves() {
+            node.release(rid);
+        }
     }
 }
 

@@ -12,6 +12,7 @@ mod machine;
 mod queue;
 mod reply;
 mod rest;
+mod session;
 mod write;
 
 pub use conn::Conn;

@@ -1,7 +1,8 @@
 //! A connection, a node and a clock as one side of a conversation.
 
-ghost use Rattle.std.specs.Prelude.{◌≡◌, ◌++◌, [], true, length, min, take, drop};
+ghost use Rattle.std.specs.Prelude.{◌≡◌, ◌++◌, [], true, None, MatchOption, length, min, take, drop};
 ghost use Rattle.conn_core.specs.Waiting.{waiting};
+ghost use Rattle.conn_core.specs.Hearing.{answering, IsReleased};
 ghost use Rattle.conn_core.specs.Machine.{Parts, parts, Adds};
 
 use crate::conn::Conn;
@@ -47,10 +48,11 @@ impl<N, C> NodeMachine<N, C> {
 }
 
 impl<N: NodeCalls, C> NodeMachine<N, C> {
-    /// The stream of the client has ended: an unfinished message is dropped, and the connection takes
-    /// no more bytes. Takes no memory.
+    /// The stream of the client has ended: an unfinished message is dropped, the connection takes no more
+    /// bytes, and what a supplier held by it is released. Takes no memory.
     pub fn closed(&mut self)
-        ensures { self.new ≡ record self.old { conn = record self.old.conn { held = []; is_closed = true } } }
+        ensures state { self.new ≡ record self.old { conn = record self.old.conn { held = []; consumer = record { from = None }; is_closed = true }; node = self.new.node } }
+        ensures released { MatchOption self.old.conn.consumer.from (self.new.node ≡ self.old.node) (λ rid. IsReleased N.reach rid self.old.node self.new.node) }
     {
         self.conn.closed(&mut self.node);
     }
@@ -65,7 +67,7 @@ impl<N: NodeCalls, C: Clock> Machine for NodeMachine<N, C> {
 
     ghost is_ended = { λ s. s.conn.is_closed };
 
-    ghost adds = { Adds N.reach N.is_open N.is_committed C.tells };
+    ghost adds = { Adds (answering N.reach N.heard) N.is_open N.is_committed C.tells };
 
     fn feed(&mut self, alloc: Global, bytes: &[u8]) -> Result<Fed, NoMemory> {
         let now = self.clock.now();

@@ -1,22 +1,17 @@
 //! Results, and the replies that carry them.
 
-ghost use Rattle.std.specs.Prelude.{◌≡◌, ◌≢◌, ◌∷◌, ◌++◌, [], Some, IfOk, OnOk, OnErr, ◌||◌, ◌==◌};
+ghost use Rattle.std.specs.Prelude.{◌≡◌, ◌≢◌, ◌∷◌, ◌++◌, [], Some, IfOk, OnOk, OnErr, ◌==◌};
 ghost use Rattle.ldap_rules.specs.Case.{result_of};
 ghost use Rattle.ldap_replies.specs.Form.{reply_bytes};
 ghost use Rattle.node_core.specs.Answers.{used_up};
 ghost use Rattle.conn_core.specs.Stream.{is_unbind};
-ghost use Rattle.conn_core.specs.Serving.{kind_of, response, reply_to, is_session, notice, begin_result, commit_result, plain_code, count_starved, IsTold};
+ghost use Rattle.conn_core.specs.Serving.{kind_of, response, reply_to, notice, begin_result, commit_result, plain_code, count_starved, IsTold};
 
+use crate::session::is_session;
 use ldap_replies::write_reply;
 use ldap_types::{Bytes, Code, LdapResult, NoMemory, Op, Reply, ReplyOp};
 use node_core::{BeginFault, CommitFault, used_up};
-use repl_data::same_bytes;
 use std::alloc::Global;
-
-/// The names of the extended operations that open and close a session between servers.
-const START_NAME: &[u8] = b"2.999.389.1";
-
-const END_NAME: &[u8] = b"2.999.389.2";
 
 /// The name of the notice of disconnection (RFC 4511, section 4.4.1).
 const NOTICE_NAME: &[u8] = b"1.3.6.1.4.1.1466.20036";
@@ -87,12 +82,6 @@ pub(crate) fn result_of(alloc: Global, code: Code) -> LdapResult
     }
 }
 
-pub(crate) fn is_session(oid: &[u8]) -> bool
-    ensures { result ≡ is_session oid.now }
-{
-    same_bytes(oid, START_NAME) || same_bytes(oid, END_NAME)
-}
-
 pub(crate) fn is_unbind(op: &Op) -> bool
     ensures { result ≡ is_unbind op.now }
 {
@@ -107,7 +96,7 @@ pub(crate) fn plain_code(op: &Op) -> Code
         Op::Unbind | Op::Abandon { .. } => Code::SUCCESS,
         Op::Extended { oid, .. } => {
             if is_session(oid.as_slice()) {
-                Code::UNWILLING_TO_PERFORM
+                Code::INSUFFICIENT_ACCESS_RIGHTS
             } else {
                 Code::PROTOCOL_ERROR
             }

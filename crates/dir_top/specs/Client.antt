@@ -1,5 +1,5 @@
 -- The client of a connection, between two lines of the script.
-use Rattle.std.specs.Prelude.{◌≡◌, ℕ, Bool, false, nat_lt, List, [], ◌++◌, length}
+use Rattle.std.specs.Prelude.{◌≡◌, ℕ, Bool, false, nat_lt, List, [], ◌++◌, length, None}
 use Rattle.std.specs.List.{list_all}
 use Rattle.ldap_types.specs.declared.reply.Identity.{Identity}
 use Rattle.ldap_types.specs.declared.reply.Identity.TheVariants.{Anonymous}
@@ -29,8 +29,10 @@ with_bytes client bytes = record client { held = client.held ++ bytes }
 abbrev pub has_built : Client → Bool
 has_built client = list_all is_built (stream_of client.held).requests
 
--- between two lines no reply waits, no request was answered for want of memory, and the connection has not ended
+-- between two lines no reply waits, no supplier has begun to send, no request was answered for want of memory, and the
+-- connection has not ended
 pub record IsIdle (conn : Conn) : Type 0 where
   pub answered : conn.replies ≡ []
+  pub free : conn.consumer ≡ record { from = None }
   pub unstarved : conn.starved ≡ 0
   pub unended : conn.is_closed ≡ false

@@ -1,6 +1,6 @@
 //! What a connection keeps between two lines.
 
-ghost use Rattle.std.specs.Prelude.{◌≡◌, [], false, IfOk, OnOk};
+ghost use Rattle.std.specs.Prelude.{◌≡◌, [], false, None, IfOk, OnOk};
 ghost use Rattle.dir_top.specs.Client.{IsIdle, new_client, has_part, with_bytes, has_built};
 
 use conn_core::Conn;
@@ -46,7 +46,7 @@ impl Client {
     }
 
     pub(crate) fn into_conn(self) -> Conn
-        ensures { result ≡ record { held = self.held; replies = []; bound = self.bound; starved = 0; is_closed = false } }
+        ensures { result ≡ record { held = self.held; replies = []; bound = self.bound; consumer = record { from = None }; starved = 0; is_closed = false } }
     {
         let Client { conn } = self;
         conn

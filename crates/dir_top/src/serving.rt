@@ -1,9 +1,11 @@
 //! Bytes on a connection, served over the world.
 
-ghost use Rattle.std.specs.Prelude.{◌≡◌, ◌++◌, [], true, false, if◌then◌else◌, IfOk, OnOk};
+ghost use Rattle.std.specs.Prelude.{◌≡◌, ◌++◌, [], true, false, None, if◌then◌else◌, IfOk, OnOk};
+ghost use Rattle.std.specs.List.{list_all};
 ghost use Rattle.world_core.specs.World.{is_node};
 ghost use Rattle.conn_core.specs.Whole.{stream_of};
-ghost use Rattle.dir_top.specs.Client.{IsIdle};
+ghost use Rattle.conn_core.specs.Serving.{is_built};
+ghost use Rattle.dir_top.specs.Client.{IsIdle, has_built};
 ghost use Rattle.dir_top.specs.Report.{reply_lines, closed_line};
 ghost use Rattle.dir_top.specs.Serving.{fed_by};
 ghost use Rattle.dir_top.specs.Turn.{turn, kept};
@@ -21,6 +23,7 @@ use world_core::{AtNode, World};
 fn feed_at(alloc: Global, world: World, n: u16, mut conn: Conn) -> Result<(World, Conn), NoMemory>
     requires node { is_node world n ≡ true }
     requires open { conn.is_closed ≡ false }
+    requires built { list_all is_built (stream_of conn.held).requests ≡ true }
     ensures { IfOk result (λ after. after ≡ turn world n conn (stream_of conn.held)) }
 {
     let now = world.clock();
@@ -49,6 +52,7 @@ fn text_of(alloc: Global, c: u16, conn: &mut Conn) -> Result<Bytes, NoMemory>
 /// A connection that has not ended stays open.
 fn kept(node: u16, instance: u64, conn: Conn) -> Connection
     requires answered { conn.replies ≡ [] }
+    requires free { conn.consumer ≡ record { from = None } }
     requires unstarved { conn.starved ≡ 0 }
     ensures { result ≡ kept node instance conn }
 {
@@ -72,7 +76,8 @@ impl State {
         instance: u64,
         client: Client,
     ) -> Result<Bytes, NoMemory>
-        requires { is_node self.old.world node ≡ true }
+        requires node { is_node self.old.world node ≡ true }
+        requires built { has_built client ≡ true }
         ensures { IfOk result (λ text. (self.new, text) ≡ fed_by self.old c node instance client (stream_of client.held)) }
     {
         let world = mem::replace(&mut self.world, World::empty(alloc));

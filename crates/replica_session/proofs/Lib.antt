@@ -1,4 +1,4 @@
 pub mod Meaning
 pub mod Sessions
 pub mod Told
-pub mod Starving
+pub mod Asking

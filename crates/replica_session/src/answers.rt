@@ -133,7 +133,7 @@ fn fault_result(alloc: Global, fault: ApplyFault) -> Result<LdapResult, NoMemory
 }
 
 /// The result for an update. One that is taken needs no memory.
-pub(crate) fn apply_result(
+pub fn apply_result(
     alloc: Global,
     answer: Result<Applied, ApplyFault>,
 ) -> Result<LdapResult, NoMemory>
@@ -148,7 +148,7 @@ pub(crate) fn apply_result(
 
 /// The result for a start that is not accepted.
 #[tactic(auto, unfolding(crate::specs::Answers::wrong_suffix, crate::specs::Answers::same_id))]
-pub(crate) fn acquire_result(alloc: Global, fault: AcquireFault) -> Result<LdapResult, NoMemory>
+pub fn acquire_result(alloc: Global, fault: AcquireFault) -> Result<LdapResult, NoMemory>
     ensures { IsTold (acquire_result fault) result }
 {
     match fault {

@@ -1,18 +1,17 @@
 //! The consumer's side of a session.
 
-ghost use Rattle.std.specs.Prelude.{◌≡◌, MatchOption, IfOk, OnErr, Some, None, Ok, Err};
+ghost use Rattle.std.specs.Prelude.{◌≡◌, MatchOption, IfOk, OnErr, Some, None};
 ghost use Rattle.repl_wire.specs.Keys.{HasKeysOfSpellings};
-ghost use Rattle.repl_wire.specs.Reading.{start_of, end_of};
-ghost use Rattle.repl_wire.specs.Update.{update_of};
-ghost use Rattle.replica_session.specs.Answers.{unreadable};
-ghost use Rattle.replica_session.specs.Consumer.{reply_with, is_start, is_extended, end_reply, Starts, StartsSo, Updates, UpdatesSo, Answers, StarvesAtStart, StarvesAtUpdate, Starves};
+ghost use Rattle.replica_session.specs.Asked.{IsKeyed, asked};
+ghost use Rattle.replica_session.specs.Consumer.{Starts, Updates, Answers, StarvesAtStart, StarvesAtUpdate, Starves};
 
-use crate::answers::{acquire_result, apply_result, not_holder, plain, unreadable};
+use crate::answers::{acquire_result, apply_result};
+use crate::asked::{Asked, asked_of};
 use crate::refusal::reply_with;
 use crate::take::Take;
-use ldap_types::{Code, NoMemory, Op, Reply, Request};
+use ldap_types::{NoMemory, Reply, Request};
 use repl_data::Update;
-use repl_wire::{WireFault, read_end, read_start, read_update, start_name, started_reply};
+use repl_wire::started_reply;
 use std::alloc::Global;
 use vector_core::Start;
 
@@ -23,39 +22,22 @@ pub struct Consumer {
     from: Option<u16>,
 }
 
-/// What is answered to an end: it changes nothing.
-fn end_reply(alloc: Global, request: &Request) -> Result<Reply, NoMemory>
-    ensures { IfOk result (λ r. r ≡ end_reply request.now) }
+/// An update that was read, of this supplier.
+fn apply<T: Take>(
+    alloc: Global,
+    take: &mut T,
+    request: &Request,
+    from: u16,
+    update: &Update,
+    now: u32,
+) -> Result<Reply, NoMemory>
+    requires { HasKeysOfSpellings update.now }
+    ensures ok { IfOk result (λ r. Updates T.taking request.now from update.now now take.old r take.new) }
+    ensures short { OnErr result (StarvesAtUpdate T.taking from update.now now take.old take.new) }
 {
-    match read_end(alloc, request) {
-        Ok(_) => Ok(reply_with(request, plain(alloc, Code::SUCCESS))),
-        Err(WireFault::NoMemory) => Err(NoMemory),
-        Err(WireFault::Bad { .. }) => unreadable_reply(alloc, request),
-    }
-}
-
-fn unreadable_reply(alloc: Global, request: &Request) -> Result<Reply, NoMemory>
-    ensures { IfOk result (λ r. r ≡ reply_with request.now unreadable) }
-{
-    let told = unreadable(alloc)?;
+    let answer = take.apply(alloc, from, update, now);
+    let told = apply_result(alloc, answer)?;
     Ok(reply_with(request, told))
-}
-
-/// The request has the name of a start.
-fn is_start(op: &Op) -> bool
-    ensures { result ≡ is_start op.now }
-{
-    match op {
-        Op::Extended { oid, .. } => oid.as_slice() == start_name(),
-        _ => false,
-    }
-}
-
-/// The request is an extended one.
-fn is_extended(op: &Op) -> bool
-    ensures { result ≡ is_extended op.now }
-{
-    matches!(op, Op::Extended { .. })
 }
 
 impl Consumer {
@@ -64,6 +46,35 @@ impl Consumer {
         ensures { result ≡ record { from = None } }
     {
         Consumer { from: None }
+    }
+
+    /// What a message of the supplier asks of the node, for whoever puts it to the node: `hear` does, and
+    /// answers it by what the node says.
+    ///
+    /// Costs time in the size of the message.
+    pub fn asks(&self, alloc: Global, request: &Request) -> Result<Asked, NoMemory>
+        ensures asked { IfOk result (λ a. a ≡ asked self.now.from request.now) }
+        ensures keys { IfOk result (λ a. IsKeyed a) }
+    {
+        asked_of(alloc, request, self.from)
+    }
+
+    /// The node accepted a start of this supplier: it holds the node, and updates on this connection are
+    /// its own from now on.
+    pub fn accepts(&mut self, rid: u16)
+        ensures { self.new ≡ record { from = Some rid } }
+    {
+        self.from = Some(rid);
+    }
+
+    /// The connection has ended. Gives the supplier whose hold of the node ends with it, if there is one.
+    pub fn leaves(&mut self) -> Option<u16>
+        ensures rid { result ≡ self.old.from }
+        ensures state { self.new ≡ record { from = None } }
+    {
+        let from = self.from;
+        self.from = None;
+        from
     }
 
     /// A start that was read.
@@ -82,69 +93,9 @@ impl Consumer {
             let told = acquire_result(alloc, fault)?;
             return Ok(reply_with(request, told));
         }
-        self.from = Some(start.rid);
+        self.accepts(start.rid);
         let vector = take.front(alloc)?;
         started_reply(alloc, request.id, &vector)
-    }
-
-    /// A request with the name of a start.
-    fn hear_start<T: Take>(
-        &mut self,
-        alloc: Global,
-        take: &mut T,
-        request: &Request,
-        now: u32,
-    ) -> Result<Reply, NoMemory>
-        ensures ok { IfOk result (λ r. StartsSo T.taking request.now now self.old take.old r self.new take.new (start_of request.now)) }
-        ensures short { OnErr result (Starves T.taking request.now now self.old take.old self.new take.new) }
-    {
-        match read_start(alloc, request) {
-            Ok(start) => self.start(alloc, take, request, &start, now),
-            Err(WireFault::NoMemory) => Err(NoMemory),
-            Err(WireFault::Bad { .. }) => unreadable_reply(alloc, request),
-        }
-    }
-
-    /// An update that was read.
-    fn update<T: Take>(
-        &mut self,
-        alloc: Global,
-        take: &mut T,
-        request: &Request,
-        update: &Update,
-        now: u32,
-    ) -> Result<Reply, NoMemory>
-        requires { HasKeysOfSpellings update.now }
-        ensures ok { IfOk result (λ r. Updates T.taking request.now update.now now self.old.from take.old r take.new) }
-        ensures short { OnErr result (StarvesAtUpdate T.taking update.now now self.old.from take.old take.new) }
-        ensures state { self.new ≡ self.old }
-    {
-        let Some(from) = self.from else {
-            let told = not_holder(alloc)?;
-            return Ok(reply_with(request, told));
-        };
-        let answer = take.apply(alloc, from, update, now);
-        let told = apply_result(alloc, answer)?;
-        Ok(reply_with(request, told))
-    }
-
-    /// A request that is no extended one.
-    fn hear_update<T: Take>(
-        &mut self,
-        alloc: Global,
-        take: &mut T,
-        request: &Request,
-        now: u32,
-    ) -> Result<Reply, NoMemory>
-        ensures ok { IfOk result (λ r. UpdatesSo T.taking request.now now self.old take.old r take.new (update_of request.now)) }
-        ensures short { OnErr result (Starves T.taking request.now now self.old take.old self.new take.new) }
-        ensures state { self.new ≡ self.old }
-    {
-        match read_update(alloc, request) {
-            Ok(update) => self.update(alloc, take, request, &update, now),
-            Err(WireFault::NoMemory) => Err(NoMemory),
-            Err(WireFault::Bad { .. }) => unreadable_reply(alloc, request),
-        }
     }
 
     /// Hears a message of a supplier at the time `now`, in seconds since 1970, and answers it.
@@ -169,13 +120,14 @@ impl Consumer {
         ensures ok { IfOk result (λ r. Answers T.taking request.now now self.old take.old r self.new take.new) }
         ensures short { OnErr result (Starves T.taking request.now now self.old take.old self.new take.new) }
     {
-        if is_start(&request.op) {
-            return self.hear_start(alloc, take, request, now);
+        let Ok(asked) = self.asks(alloc, request) else {
+            return Err(NoMemory);
+        };
+        match asked {
+            Asked::Nothing(reply) => Ok(reply),
+            Asked::Acquire(start) => self.start(alloc, take, request, &start, now),
+            Asked::Apply { from, update } => apply(alloc, take, request, from, &update, now),
         }
-        if is_extended(&request.op) {
-            return end_reply(alloc, request);
-        }
-        self.hear_update(alloc, take, request, now)
     }
 
     /// The connection has ended: the supplier of its last accepted start holds the node no longer. Takes no memory.
@@ -183,8 +135,7 @@ impl Consumer {
         ensures released { MatchOption self.old.from (take.new ≡ take.old) (λ rid. T.taking.releases take.old rid take.new) }
         ensures state { self.new ≡ record { from = None } }
     {
-        if let Some(rid) = self.from {
-            self.from = None;
+        if let Some(rid) = self.leaves() {
             take.release(rid);
         }
     }

@@ -3,6 +3,7 @@
 #![tactic(auto)]
 
 mod answers;
+mod asked;
 mod bind;
 mod consumer;
 mod laws;
@@ -12,9 +13,12 @@ mod supplier;
 mod supply;
 mod take;
 
+pub use answers::{acquire_result, apply_result};
+pub use asked::Asked;
 pub use consumer::Consumer;
 pub use laws::session_laws;
 pub use number::next_id;
+pub use refusal::reply_with;
 pub use supplier::{SessionEnd, Supplier, SupplyStep};
 pub use supply::Supply;
 pub use take::Take;

@@ -2,7 +2,7 @@
 
 ghost use Rattle.std.specs.Prelude.{◌≡◌};
 ghost use Rattle.replica_session.specs.Answers.{reply_op};
-ghost use Rattle.replica_session.specs.Consumer.{reply_with};
+ghost use Rattle.replica_session.specs.Asked.{reply_with};
 
 use ldap_types::{LdapResult, NoMemory, Op, Reply, ReplyOp, Request};
 
@@ -23,8 +23,8 @@ fn reply_op(op: &Op, told: LdapResult) -> ReplyOp
     }
 }
 
-/// The reply to this request with this result.
-pub(crate) fn reply_with(request: &Request, told: LdapResult) -> Reply
+/// The reply to a message of a supplier with this result, of the kind of the message.
+pub fn reply_with(request: &Request, told: LdapResult) -> Reply
     ensures { result ≡ reply_with request.now told }
 {
     Reply {

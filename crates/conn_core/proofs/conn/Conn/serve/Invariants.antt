@@ -1,5 +1,6 @@
 use Rattle.std.proofs.Common.{◌≡◌, ℕ, List, ◌≤◌, ◌-◌, length, drop}
 use Rattle.node_core.specs.Calls.{AreSame}
+use Rattle.conn_core.specs.Hearing.{answering}
 use Rattle.conn_core.specs.Serving.{Session}
 use Rattle.conn_core.specs.Feeding.{session, Carries, StillWait}
 use Rattle.conn_core.proofs.conn.Conn.serve.Given as goal
@@ -14,8 +15,8 @@ invariant-loop-at g l = record {
   open_tickets : AreSame (g.N.NodeCalls.is_open l.fn.node) (g.N.NodeCalls.is_open l.node);
   committed : AreSame (g.N.NodeCalls.is_committed l.fn.node) (g.N.NodeCalls.is_committed l.node);
   life : (g.N.NodeCalls.reach.node l.node).life ≡ (g.N.NodeCalls.reach.node l.fn.node).life;
-  carried : (left : List ℕ) (t : Session g.row.N.Denot) → Carries g.N.NodeCalls.reach l.now (drop l.at l.stream) (session l.self l.node) left t
-      → Carries g.N.NodeCalls.reach l.now l.stream (session l.fn.self l.fn.node) left t;
+  carried : (left : List ℕ) (t : Session g.row.N.Denot) → Carries (answering g.N.NodeCalls.reach g.N.NodeCalls.heard) l.now (drop l.at l.stream) (session l.self l.node) left t
+      → Carries (answering g.N.NodeCalls.reach g.N.NodeCalls.heard) l.now l.stream (session l.fn.self l.fn.node) left t;
 }
 
 abbrev pub decreases-loop-at : goal.decreases-loop-at
